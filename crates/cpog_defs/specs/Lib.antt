@@ -1,0 +1,10 @@
+pub mod Walks
+pub mod Orders
+pub mod Scenarios
+pub mod Entries
+pub mod Codes
+pub mod Gates
+pub mod Graphs
+pub mod Columns
+pub mod Encodings
+pub mod Stored
