@@ -1,0 +1,23 @@
+//! The values that every crate of `cpog` speaks of: operations and sets of them, names, columns, scenarios, orders,
+//! statuses and limits. It stands on the definitions of `cpog_defs`. Each type is seen by contracts as one plain
+//! value (a set, a list, a record of `cpog_defs`), and each call is promised to be that value's own.
+#![tactic(auto)]
+
+mod limits;
+mod memory;
+mod name;
+mod names;
+mod op_set;
+mod order;
+mod scenario;
+mod status;
+
+pub use cpog_defs::types::{Bit3, OpId, ScenId};
+pub use limits::{Counted, INPUT_LIMIT, OPERATION_LIMIT, SCENARIO_LIMIT};
+pub use memory::Memory;
+pub use name::Name;
+pub use names::Names;
+pub use op_set::OpSet;
+pub use order::Order;
+pub use scenario::Scenario;
+pub use status::Status;
