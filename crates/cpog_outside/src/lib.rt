@@ -1,0 +1,26 @@
+//! What the program meets outside: a source of bytes, a sink for them, and their faults.
+//!
+//! A source or a sink may tell its bytes, as those in memory do, and it counts its faults. `read_all` and `write_all`
+//! promise what they do to the told bytes, and that they answer a fault only where the count of faults rose. Standard
+//! input and output tell no bytes: their few lines in `std_ends` are trusted. Of the crates below only the fault
+//! `Memory` of `cpog_base` is used.
+#![tactic(auto)]
+
+mod fault_plan;
+mod memory_sink;
+mod memory_source;
+mod plain_source;
+mod reading;
+mod sink;
+mod source;
+mod std_ends;
+mod writing;
+
+pub use memory_sink::MemSink;
+pub use memory_source::MemSource;
+pub use plain_source::PlainSource;
+pub use reading::{ReadAllFault, read_all};
+pub use sink::Sink;
+pub use source::{Failed, Source};
+pub use std_ends::{StdSink, StdSource};
+pub use writing::{WriteFault, write_all};
