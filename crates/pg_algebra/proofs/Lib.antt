@@ -1,0 +1,3 @@
+pub mod GraphLaws
+pub mod MeaningLemmas
+pub mod ShapeLemmas

@@ -1,0 +1,4 @@
+pub mod Graphs
+pub mod Algebra
+pub mod Meaning
+pub mod Shapes
