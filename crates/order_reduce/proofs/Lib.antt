@@ -1,0 +1,5 @@
+pub mod CoveredLemmas
+pub mod Mantel
+pub mod PairCount
+pub mod PairWalks
+pub mod PairLemmas
