@@ -1,0 +1,3 @@
+pub mod ClosureLemmas
+pub mod EqualLemmas
+pub mod RowLemmas

@@ -1,0 +1,37 @@
+-- For each operation the set of those before it, and how the sets are closed.
+use Rattle.std.specs.Prelude.{◌==◌, ℕ, zero, suc, ◌<◌, Bool, ◌&&◌, if◌then◌else◌, IsTrue, List, map, slice_index_or}
+use Rattle.std.specs.List.{list_any, Contains}
+use Rattle.std.specs.FinSet as set
+use Rattle.cpog_defs.specs.declared.types.OpId.{OpId}
+use Rattle.cpog_defs.specs.Orders.{Set, arc_of}
+use Rattle.cpog_defs.specs.Walks.{Walk}
+
+-- whether v's set has u
+abbrev pub row_has : List Set → ℕ → ℕ → Bool
+row_has rows u v = set.contains (slice_index_or rows v set.empty) u
+
+-- whether an arc from u to v is among these
+abbrev pub has_arc : List (OpId × OpId) → ℕ → ℕ → Bool
+has_arc arcs u v = list_any (λ a. (a.0.0 == u) && (a.1.0 == v)) arcs
+
+-- what is before k joins a row that has k
+abbrev pub joined_row : ℕ → Set → Set → Set
+joined_row k through row = if set.contains row k then set.union row through else row
+
+-- every row after the turn of k
+abbrev pub turned : ℕ → List Set → List Set
+turned k rows = map (joined_row k (slice_index_or rows k set.empty)) rows
+
+-- the rows after a turn for each number below k
+abbrev pub turns : ℕ → List Set → List Set
+turns zero rows = rows
+turns (suc k) rows = turned k (turns k rows)
+
+-- no operation below v is before itself
+abbrev pub NoneBelow : List Set → ℕ → Type 0
+NoneBelow rows v = (w : ℕ) → w < v → IsTrue (row_has rows w w) → ⊥
+
+-- the rows are the walks of the arcs
+pub record AreRowsOf (arcs : List (OpId × OpId)) (rows : List Set) : Type 0 where
+  pub there : (u v : ℕ) → IsTrue (row_has rows u v) → Walk (λ a b. Contains arcs (arc_of a b)) u v
+  pub back : (u v : ℕ) → Walk (λ a b. Contains arcs (arc_of a b)) u v → IsTrue (row_has rows u v)
