@@ -1,0 +1,20 @@
+-- What is proved of the values of signals.
+use Rattle.std.specs.Prelude.{◌≡◌, ℕ, ◌+◌, ◌<◌, false, length, slice_index_or, slice_get, Some}
+use Rattle.cpog_defs.specs.declared.types.Gate.{Gate}
+use Rattle.cpog_defs.specs.Codes.{bit}
+use Rattle.cpog_defs.specs.Gates.{GateList, IsGateList, signal_count, signal_values, gate_value}
+
+-- the value of an input's signal is the word's bit
+abbrev pub InputSignal : Type 0
+InputSignal = (list : GateList) (word i : ℕ) → i < list.inputs → slice_index_or (signal_values list word) i false ≡ bit word i
+
+-- the value of a gate's signal is its table's at the values of its two signals
+abbrev pub GateSignal : Type 0
+GateSignal =
+    (list : GateList) (word g : ℕ) (gate : Gate) → IsGateList list → slice_get list.gates g ≡ Some gate →
+    slice_index_or (signal_values list word) (list.inputs + g) false
+    ≡ gate_value gate.table (slice_index_or (signal_values list word) gate.j false) (slice_index_or (signal_values list word) gate.k false)
+
+-- there are as many values as signals
+abbrev pub SignalsAreCounted : Type 0
+SignalsAreCounted = (list : GateList) (word : ℕ) → length (signal_values list word) ≡ signal_count list

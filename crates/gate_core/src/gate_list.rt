@@ -1,0 +1,111 @@
+ghost use Rattle.std.specs.Prelude.{◌≡◌, ◌+◌, ◌-◌, ◌<◌, ◌≤◌, ◌^◌, [], ◌∷◌, ◌++◌, length, slice_get, Some, IfOk, OnOk, OnErr};
+ghost use Rattle.cpog_defs.specs.Gates.{IsGateList, signal_count, signal_values, gate_value};
+
+use cpog_base::Memory;
+use cpog_defs::types::Gate;
+use sqlite_items::Items;
+use std::alloc::Global;
+use std::marker::Model;
+
+/// Gates over 1 to 8 inputs. The inputs are the first signals, and gate `g` is signal `inputs + g`; each gate reads
+/// two signals before its own. There are fewer than 2^32 signals.
+#[derive(Debug, Drop)]
+pub struct GateList {
+    inputs: u8,
+    gates: Items<Gate>,
+}
+
+impl Model for GateList {
+    ghost use Rattle.std.specs.Prelude.{◌+◌, ◌<◌, ◌≤◌, ◌^◌, length};
+    ghost use Rattle.cpog_defs.specs.Gates as lists;
+
+    ghost Value = { lists.GateList };
+
+    ghost view = { λ a. record { inputs = a.inputs; gates = a.gates } };
+
+    ghost invariant = { λ a. (1 ≤ a.inputs) × (a.inputs ≤ 8) × (a.inputs + length a.gates < 2 ^ 32) × lists.AreGatesFrom a.inputs a.gates };
+}
+
+impl GateList {
+    /// No gate yet.
+    pub fn new(alloc: Global, inputs: u8) -> GateList
+        requires some { 1 ≤ inputs }
+        requires few { inputs ≤ 8 }
+        ensures { result ≡ record { inputs = inputs; gates = [] } }
+    {
+        GateList {
+            inputs,
+            gates: Items::new(alloc),
+        }
+    }
+
+    /// Puts a gate at the end, and answers the number of its signal.
+    pub fn push(&mut self, gate: Gate) -> Result<u32, Memory>
+        requires lower { gate.j < gate.k }
+        requires earlier { gate.k < signal_count self.old }
+        requires table { gate.table < 16 }
+        requires room { signal_count self.old < 2 ^ 32 - 1 }
+        ensures number { IfOk result (λ number. number ≡ signal_count self.old) }
+        ensures gates { OnOk result (self.new ≡ record self.old { gates = self.old.gates ++ gate ∷ [] }) }
+        ensures err { OnErr result (self.new ≡ self.old) }
+    {
+        let number = self.len() + u32::from(self.inputs);
+        self.gates.push(gate)?;
+        Ok(number)
+    }
+
+    /// How many inputs there are.
+    pub fn inputs(&self) -> u8
+        ensures inputs { result ≡ self.now.inputs }
+        ensures some { 1 ≤ self.now.inputs }
+        ensures few { self.now.inputs ≤ 8 }
+    {
+        self.inputs
+    }
+
+    /// How many gates there are.
+    pub fn len(&self) -> u32
+        ensures len { result ≡ length self.now.gates }
+        ensures fit { signal_count self.now < 2 ^ 32 }
+    {
+        self.gates.len() as u32
+    }
+
+    /// The gate at a place.
+    pub fn gate(&self, g: u32) -> Gate
+        requires { g < length self.now.gates }
+        ensures { slice_get self.now.gates g ≡ Some result }
+    {
+        self.gates.as_slice()[g as usize]
+    }
+
+    /// The gates, in the order of their signals.
+    pub fn gates(&self) -> &[Gate]
+        ensures gates { result.now ≡ self.now.gates }
+        ensures earlier { IsGateList self.now }
+        ensures fit { signal_count self.now < 2 ^ 32 }
+    {
+        self.gates.as_slice()
+    }
+
+    /// The values of all signals on a word, whose bit `i` is input `i`: one step for each signal.
+    pub fn eval(&self, word: u8, out: &mut [bool])
+        requires { length out.old ≡ signal_count self.now }
+        ensures { out.new ≡ signal_values self.now word }
+    {
+        let inputs = usize::from(self.inputs());
+        for i in 0..inputs {
+            out[i] = (word >> i) & 1 == 1;
+        }
+        for (g, gate) in self.gates().iter().enumerate() {
+            out[inputs + g] = table_value(gate.table, out[gate.j as usize], out[gate.k as usize]);
+        }
+    }
+}
+
+/// The value of a gate with this table on the values of its two signals.
+fn table_value(table: u8, p: bool, q: bool) -> bool
+    ensures { result ≡ gate_value table p q }
+{
+    (table >> (2 * u8::from(p) + u8::from(q))) & 1 == 1
+}

@@ -1,0 +1,16 @@
+ghost use Rattle.gate_core.specs.Laws.{InputSignal, GateSignal, SignalsAreCounted};
+
+/// The value of an input's signal is the word's bit.
+pub fn input_signal()
+    ensures { InputSignal }
+{}
+
+/// The value of a gate's signal is its table's at the values of its two signals.
+pub fn gate_signal()
+    ensures { GateSignal }
+{}
+
+/// There are as many values as signals.
+pub fn signals_are_counted()
+    ensures { SignalsAreCounted }
+{}

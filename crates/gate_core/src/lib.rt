@@ -1,0 +1,17 @@
+//! Two-input gates over the bits of a code, conditional graphs whose conditions are signals of these gates, and
+//! encodings, which join both with a code for each scenario. It stands on the values of `cpog_base` and the
+//! definitions of `cpog_defs`. Each type keeps what makes it meaningful (a gate reads earlier signals, a graph is
+//! square, a condition speaks of a signal that is there), and `GateList::eval` is promised to give exactly the
+//! signals' values on a word.
+#![tactic(auto)]
+
+mod encoding;
+mod gate_list;
+mod graph;
+mod laws;
+
+pub use cpog_defs::types::{Gate, Ref};
+pub use encoding::Encoding;
+pub use gate_list::GateList;
+pub use graph::ConditionalGraph;
+pub use laws::{gate_signal, input_signal, signals_are_counted};
