@@ -1,3 +1,4 @@
 pub mod NamesLemmas
 pub mod OpSetLemmas
 pub mod ArcLemmas
+pub mod ColumnLemmas

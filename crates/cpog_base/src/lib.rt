@@ -3,6 +3,7 @@
 //! value (a set, a list, a record of `cpog_defs`), and each call is promised to be that value's own.
 #![tactic(auto)]
 
+mod column;
 mod limits;
 mod memory;
 mod name;
@@ -12,6 +13,7 @@ mod order;
 mod scenario;
 mod status;
 
+pub use column::Column;
 pub use cpog_defs::types::{Bit3, OpId, ScenId};
 pub use limits::{Counted, INPUT_LIMIT, OPERATION_LIMIT, SCENARIO_LIMIT};
 pub use memory::Memory;
