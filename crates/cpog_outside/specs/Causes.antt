@@ -1,5 +1,5 @@
 -- When a fault may be answered.
-use Rattle.std.specs.Prelude.{◌≡◌, ℕ, ◌+◌, ◌-◌, ◌^◌, ◌<◌, ◌≤◌, min, Bool, if◌then◌else◌, OnErr}
+use Rattle.std.specs.Prelude.{ℕ, ◌+◌, ◌-◌, ◌^◌, ◌≤◌, min, Bool, if◌then◌else◌, OnErr}
 use Rattle.std.specs.declared.result.Result.{Result}
 
 -- a count after one more, which stays at the last value of a u64

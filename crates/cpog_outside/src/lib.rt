@@ -24,3 +24,6 @@ pub use sink::Sink;
 pub use source::{Failed, Source};
 pub use std_ends::{StdSink, StdSource};
 pub use writing::{WriteFault, write_all};
+
+#[cfg(test)]
+mod tests;

@@ -39,6 +39,16 @@ impl GateList {
         }
     }
 
+    /// A list of the same gates.
+    pub fn try_clone(&self, alloc: Global) -> Result<GateList, Memory>
+        ensures { IfOk result (λ list. list ≡ self.now) }
+    {
+        Ok(GateList {
+            inputs: self.inputs,
+            gates: Items::from_slice(alloc, self.gates())?,
+        })
+    }
+
     /// Puts a gate at the end, and answers the number of its signal.
     pub fn push(&mut self, gate: Gate) -> Result<u32, Memory>
         requires lower { gate.j < gate.k }

@@ -55,7 +55,7 @@ impl ConditionalGraph {
         requires { v.0 < length self.now.ops }
         ensures { result ≡ op_ref self.now v.0 }
     {
-        self.ops[v.0 as usize]
+        self.ops[usize::from(v.0)]
     }
 
     /// The condition of the pair from `u` to `v`.
@@ -64,7 +64,8 @@ impl ConditionalGraph {
         requires second { v.0 < length self.now.ops }
         ensures { result ≡ arc_ref self.now u.0 v.0 }
     {
-        self.arcs[u.0 as usize][v.0 as usize]
+        let row = &self.arcs[u.0 as usize];
+        row[v.0 as usize]
     }
 
     /// Gives an operation this condition.

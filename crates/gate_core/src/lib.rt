@@ -9,6 +9,8 @@ mod encoding;
 mod gate_list;
 mod graph;
 mod laws;
+#[cfg(test)]
+mod tests;
 
 pub use cpog_defs::types::{Gate, Ref};
 pub use encoding::Encoding;

@@ -1,4 +1,3 @@
-use Rattle.std.proofs.Common.{◌++◌, take}
 use Rattle.cpog_outside.proofs.ToldLemmas.{Consumes-trans, LosesFront-from_Consumes}
 use Rattle.cpog_outside.proofs.reading.read_by_pieces.Goals as goal
 
