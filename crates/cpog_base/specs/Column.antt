@@ -22,12 +22,12 @@ is_zero b = false
 
 -- the entry that the two words' bits stand for
 abbrev pub entry_of : ℕ → ℕ → ℕ → Bit3
-entry_of ones zeros i = if bit ones i then One else (if bit zeros i then Zero else Free)
+entry_of one_bits zero_bits i = if bit one_bits i then One else (if bit zero_bits i then Zero else Free)
 
 -- the first n entries
 unfoldable pub entries : ℕ → ℕ → ℕ → List Bit3
-entries zero ones zeros = []
-entries (suc n) ones zeros = entries n ones zeros ++ entry_of ones zeros n ∷ []
+entries zero one_bits zero_bits = []
+entries (suc n) one_bits zero_bits = entries n one_bits zero_bits ++ entry_of one_bits zero_bits n ∷ []
 
 -- the number whose bits below n say where a test holds
 unfoldable pub word_where : (Bit3 → Bool) → ℕ → List Bit3 → ℕ
@@ -35,23 +35,23 @@ word_where p zero xs = 0
 word_where p (suc n) xs = (if p (slice_index_or xs n Free) then 1 else 0) * 2 ^ n + word_where p n xs
 
 -- bits below n alone, and none in both
-pub record AreWords (n ones zeros : ℕ) : Type 0 where
+pub record AreWords (n one_bits zero_bits : ℕ) : Type 0 where
   pub few : n ≤ 64
-  pub ones_below : ones < 2 ^ n
-  pub zeros_below : zeros < 2 ^ n
-  pub apart : (i : ℕ) → IsTrue (bit ones i) → bit zeros i ≡ false
+  pub ones_below : one_bits < 2 ^ n
+  pub zeros_below : zero_bits < 2 ^ n
+  pub apart : (i : ℕ) → IsTrue (bit one_bits i) → bit zero_bits i ≡ false
 
-pub length-entries : (n ones zeros : ℕ) → length (entries n ones zeros) ≡ n
+pub length-entries : (n one_bits zero_bits : ℕ) → length (entries n one_bits zero_bits) ≡ n
 unfolding entries
-length-entries zero ones zeros = refl
-length-entries (suc n) ones zeros = length-append (entries n ones zeros) (entry_of ones zeros n ∷ []) ∙ omega (arith, length-entries n ones zeros)
+length-entries zero one_bits zero_bits = refl
+length-entries (suc n) one_bits zero_bits = length-append (entries n one_bits zero_bits) (entry_of one_bits zero_bits n ∷ []) ∙ omega (arith, length-entries n one_bits zero_bits)
 
-pub get-entries : (n ones zeros i : ℕ) (d : Bit3) → i < n → slice_index_or (entries n ones zeros) i d ≡ entry_of ones zeros i
+pub get-entries : (n one_bits zero_bits i : ℕ) (d : Bit3) → i < n → slice_index_or (entries n one_bits zero_bits) i d ≡ entry_of one_bits zero_bits i
 unfolding entries
-get-entries zero ones zeros i d l = absurd (omega arith)
-get-entries (suc n) ones zeros i d l = elim (cases_eq i n) [
-  | inl same ↦ rw same (ap (λ k. slice_index_or (entries n ones zeros ++ entry_of ones zeros n ∷ []) k d) (sym (length-entries n ones zeros)) ∙ get_or-append_seam (entries n ones zeros) (entry_of ones zeros n) [] d)
-  | inr other ↦ get_or_append_left (entries n ones zeros) _ d i (rw (length-entries n ones zeros) (omega arith)) ∙ get-entries n ones zeros i d (omega arith)
+get-entries zero one_bits zero_bits i d l = absurd (omega arith)
+get-entries (suc n) one_bits zero_bits i d l = elim (cases_eq i n) [
+  | inl same ↦ rw same (ap (λ k. slice_index_or (entries n one_bits zero_bits ++ entry_of one_bits zero_bits n ∷ []) k d) (sym (length-entries n one_bits zero_bits)) ∙ get_or-append_seam (entries n one_bits zero_bits) (entry_of one_bits zero_bits n) [] d)
+  | inr other ↦ get_or_append_left (entries n one_bits zero_bits) _ d i (rw (length-entries n one_bits zero_bits) (omega arith)) ∙ get-entries n one_bits zero_bits i d (omega arith)
 ]
 
 below : (p : Bit3 → Bool) (n : ℕ) (xs : List Bit3) → word_where p n xs < 2 ^ n
@@ -87,15 +87,15 @@ zero_entry true b h = sym (h refl)
 zero_entry false true h = refl
 zero_entry false false h = refl
 
-pub ones_back : (n ones zeros : ℕ) → AreWords n ones zeros → word_where is_one n (entries n ones zeros) ≡ ones
-ones_back n ones zeros h = same_from_bits_below n _ _ (below is_one n _) h.ones_below
-    (λ i l. same_bit _ _ (bit_at-lt _ i) (bit_at-lt ones i) (bit-word_where is_one n _ i l ∙ ap is_one (get-entries n ones zeros i Free l) ∙ one_entry (bit ones i) (bit zeros i) (h.apart i)))
+pub ones_back : (n one_bits zero_bits : ℕ) → AreWords n one_bits zero_bits → word_where is_one n (entries n one_bits zero_bits) ≡ one_bits
+ones_back n one_bits zero_bits h = same_from_bits_below n _ _ (below is_one n _) h.ones_below
+    (λ i l. same_bit _ _ (bit_at-lt _ i) (bit_at-lt one_bits i) (bit-word_where is_one n _ i l ∙ ap is_one (get-entries n one_bits zero_bits i Free l) ∙ one_entry (bit one_bits i) (bit zero_bits i) (h.apart i)))
 
-pub zeros_back : (n ones zeros : ℕ) → AreWords n ones zeros → word_where is_zero n (entries n ones zeros) ≡ zeros
-zeros_back n ones zeros h = same_from_bits_below n _ _ (below is_zero n _) h.zeros_below
-    (λ i l. same_bit _ _ (bit_at-lt _ i) (bit_at-lt zeros i) (bit-word_where is_zero n _ i l ∙ ap is_zero (get-entries n ones zeros i Free l) ∙ zero_entry (bit ones i) (bit zeros i) (h.apart i)))
+pub zeros_back : (n one_bits zero_bits : ℕ) → AreWords n one_bits zero_bits → word_where is_zero n (entries n one_bits zero_bits) ≡ zero_bits
+zeros_back n one_bits zero_bits h = same_from_bits_below n _ _ (below is_zero n _) h.zeros_below
+    (λ i l. same_bit _ _ (bit_at-lt _ i) (bit_at-lt zero_bits i) (bit-word_where is_zero n _ i l ∙ ap is_zero (get-entries n one_bits zero_bits i Free l) ∙ zero_entry (bit one_bits i) (bit zero_bits i) (h.apart i)))
 
 -- the words come back from the entries
-pub words_back : {A : Type 0} (n ones zeros : ℕ) → AreWords n ones zeros → (f : ℕ → ℕ → ℕ → A) →
-    (let xs : List Bit3 = entries n ones zeros in f (length xs) (word_where is_one (length xs) xs) (word_where is_zero (length xs) xs)) ≡ f n ones zeros
-words_back n ones zeros h f = rw (length-entries n ones zeros, ones_back n ones zeros h, zeros_back n ones zeros h) refl
+pub words_back : {A : Type 0} (n one_bits zero_bits : ℕ) → AreWords n one_bits zero_bits → (f : ℕ → ℕ → ℕ → A) →
+    (let xs : List Bit3 = entries n one_bits zero_bits in f (length xs) (word_where is_one (length xs) xs) (word_where is_zero (length xs) xs)) ≡ f n one_bits zero_bits
+words_back n one_bits zero_bits h f = rw (length-entries n one_bits zero_bits, ones_back n one_bits zero_bits h, zeros_back n one_bits zero_bits h) refl

@@ -23,3 +23,6 @@ pub use op_set::OpSet;
 pub use order::Order;
 pub use scenario::Scenario;
 pub use status::Status;
+
+#[cfg(test)]
+mod tests;

@@ -6,7 +6,13 @@ use cpog_base::OpId;
 #[test]
 fn an_exclusive_or_has_its_truth_table(rt: HostRuntime) {
     let mut gates = GateList::new(rt.alloc(), 2);
-    let number = gates.push(Gate { j: 0, k: 1, table: 6 }).expect(&rt, "there is memory");
+    let number = gates
+        .push(Gate {
+            j: 0,
+            k: 1,
+            table: 6,
+        })
+        .expect(&rt, "there is memory");
     assert_eq!(rt; number, 2);
     let copy = gates.try_clone(rt.alloc()).expect(&rt, "there is memory");
     for (word, want) in [(0, false), (1, true), (2, true), (3, false)] {
