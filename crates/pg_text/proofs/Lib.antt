@@ -1,0 +1,10 @@
+pub mod Runs
+pub mod TokenLaws
+pub mod GrammarLaws
+pub mod SeqSteps
+pub mod SumSteps
+pub mod NameLemmas
+pub mod FileLaws
+pub mod TextLaws
+pub mod LineSteps
+pub mod TextSteps

@@ -1,0 +1,26 @@
+//! The reader of the graph text: from bytes to the file of scenarios that they spell (Mokhov and Khomenko 2014 have
+//! the algebra that its expressions write).
+//!
+//! Lines are split off the text (`lines`), tokens are taken from the front of a line (`tokens`), and out of
+//! them expressions (`expressions`), statements (`statements`) and the file (`reading`) are read. The grammar is a data
+//! type of what stands in a line, with its tokens and its tree. The crate promises that a file is read exactly where
+//! the grammar has one within the limits, and then that file; and that else the first bad line or the first limit that
+//! is passed is told.
+#![tactic(auto)]
+
+mod expressions;
+mod fault;
+mod file;
+mod laws;
+mod lines;
+mod reading;
+mod sign;
+mod statement;
+mod statements;
+mod tokens;
+
+pub use fault::FileFault;
+pub use file::File;
+pub use laws::{file_has_no_fault, one_fault, one_file};
+pub use reading::read_file;
+pub use statement::{Numbered, Statement};
