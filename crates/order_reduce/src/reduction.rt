@@ -35,7 +35,7 @@ pub fn covered_by(order: &Order, v: OpId) -> OpSet
 }
 
 /// For each operation, by its number, those that it covers.
-fn covered_rows(alloc: Global, order: &Order) -> Result<Vec<OpSet>, Memory>
+pub fn covered_rows(alloc: Global, order: &Order) -> Result<Vec<OpSet>, Memory>
     ensures length { IfOk result (λ rows. length rows.items ≡ order.now.count) }
     ensures covered { IfOk result (λ rows. (u v : ℕ) → v < order.now.count → row_has rows.items u v ≡ is_covered order.now u v) }
 {

@@ -1,0 +1,4 @@
+pub mod FillLemmas
+pub mod FitLemmas
+pub mod ScenarioLemmas
+pub mod TableLemmas

@@ -1,0 +1,41 @@
+-- The columns of some scenarios in one table.
+use Rattle.std.specs.Prelude.{◌≡◌, ℕ, ◌+◌, ◌*◌, ◌≤◌, List, [], ◌∷◌, length, slice_index_or}
+use Rattle.std.specs.List.{All}
+use Rattle.cpog_defs.specs.declared.types.Bit3.{Bit3}
+use Rattle.cpog_defs.specs.declared.types.Place.{Place}
+use Rattle.cpog_defs.specs.declared.types.Place.TheVariants.{Op, Arc}
+use Rattle.cpog_defs.specs.Orders.{Order}
+use Rattle.cpog_defs.specs.Graphs.{IsPlace}
+use Rattle.cpog_defs.specs.Columns.{column}
+
+-- how many operations and scenarios there may be, the columns of the operations, and for each second operation those of its pairs
+pub record Table : Type 0 where
+  pub count : ℕ
+  pub scenarios : ℕ
+  pub ops : List (List Bit3)
+  pub arcs : List (List Bit3)
+
+-- the column of a place
+abbrev pub column_at : Table → Place → List Bit3
+column_at t (Op v) = slice_index_or t.ops v.0 []
+column_at t (Arc u v) = slice_index_or t.arcs (v.0 * t.count + u.0) []
+
+-- a column for each operation and each pair, each with an entry for each scenario
+pub record IsTable (t : Table) : Type 0 where
+  pub few_ops : t.count ≤ 128
+  pub few_scenarios : t.scenarios ≤ 64
+  pub ops_each : length t.ops ≡ t.count
+  pub arcs_each : length t.arcs ≡ t.count * t.count
+  pub op_entries : All (λ c. length c ≡ t.scenarios) t.ops
+  pub arc_entries : All (λ c. length c ≡ t.scenarios) t.arcs
+
+-- how many operations there may be, as the first order says
+abbrev pub count_of : List Order → ℕ
+count_of [] = 0
+count_of (o ∷ orders) = o.count
+
+-- each place has its column, with an entry for each of the scenarios
+pub record AreColumnsOf (orders : List Order) (t : Table) : Type 0 where
+  pub count : t.count ≡ count_of orders
+  pub scenarios : t.scenarios ≡ length orders
+  pub columns : (p : Place) → IsPlace (count_of orders) p → column_at t p ≡ column orders p
