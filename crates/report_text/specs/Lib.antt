@@ -1,0 +1,4 @@
+pub mod Report
+pub mod Stored
+pub mod Rows
+pub mod Laws

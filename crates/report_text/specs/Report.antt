@@ -1,0 +1,60 @@
+-- What a report says.
+use Rattle.std.specs.Prelude.{◌≡◌, ℕ, ◌<◌, ◌≤◌, ◌⊎◌, IsTrue, List, length}
+use Rattle.std.specs.List.{All, AllPairs}
+use Rattle.cpog_base.specs.Names.{AreDistinct}
+use Rattle.cpog_defs.specs.declared.types.OpId.{OpId}
+use Rattle.cpog_defs.specs.Scenarios.{Scenario, IsScenario}
+use Rattle.cpog_defs.specs.Encodings.{Encoding, IsEncoding}
+use Rattle.line_text.specs.Words.{is_free_name}
+use Rattle.report_text.specs.declared.bound.Bound.{Bound}
+use Rattle.report_text.specs.declared.bound.Bound.TheVariants.{Minimum, Between}
+
+-- the scenarios with their names, an encoding of them, and what is known of the least number of gates
+pub record ReportValue : Type 0 where
+  pub bits : ℕ
+  pub budget : ℕ
+  pub names : List (List ℕ)
+  pub scenario_names : List (List ℕ)
+  pub scenarios : List Scenario
+  pub encoding : Encoding
+  pub bound : Bound
+
+-- an arc comes before another: by their first ends, and then by their second
+abbrev pub IsArcBefore : (OpId × OpId) → (OpId × OpId) → Type 0
+IsArcBefore a b = (a.0.0 < b.0.0) ⊎ ((a.0.0 ≡ b.0.0) × (a.1.0 < b.1.0))
+
+-- a scenario of so many operations, whose arcs ascend
+pub record IsReported (count : ℕ) (sc : Scenario) : Type 0 where
+  pub count_is : sc.count ≡ count
+  pub scenario : IsScenario sc
+  pub ascending : AllPairs IsArcBefore sc.arcs
+
+-- numbers of gates are below 65536
+abbrev pub IsBound : Bound → Type 0
+IsBound (Minimum h) = h < 65536
+IsBound (Between lo hi) = (lo < 65536) × (hi < 65536)
+
+-- each word is a name and no keyword
+abbrev pub AreNames : List (List ℕ) → Type 0
+AreNames names = All (λ name. IsTrue (is_free_name name)) names
+
+-- 1 to 8 bits, a budget of 1 to 8388608, at most 64 operations, 1 to 64 scenarios with a name and a code each, and
+-- fewer than 65536 gates
+pub record IsReport (r : ReportValue) : Type 0 where
+  pub some_bit : 1 ≤ r.bits
+  pub few_bits : r.bits ≤ 8
+  pub some_budget : 1 ≤ r.budget
+  pub few_budget : r.budget ≤ 8388608
+  pub few_names : length r.names ≤ 64
+  pub names : AreNames r.names
+  pub distinct : AreDistinct r.names
+  pub some_scenario : 1 ≤ length r.scenarios
+  pub few_scenarios : length r.scenarios ≤ 64
+  pub one_name_each : length r.scenario_names ≡ length r.scenarios
+  pub scenario_names : AreNames r.scenario_names
+  pub scenarios : All (IsReported (length r.names)) r.scenarios
+  pub inputs : r.encoding.gates.inputs ≡ r.bits
+  pub one_code_each : length r.encoding.codes ≡ length r.scenarios
+  pub few_gates : length r.encoding.gates.gates < 65536
+  pub encoding : IsEncoding (length r.names) r.encoding
+  pub bound : IsBound r.bound

@@ -1,0 +1,8 @@
+/// What is known of the least number of gates.
+#[derive(Clone, Copy, Debug, PartialEq, Eq)]
+pub enum Bound {
+    /// It is this number.
+    Minimum(u32),
+    /// It is at least the first number and at most the second.
+    Between(u32, u32),
+}

@@ -1,0 +1,109 @@
+ghost use Rattle.std.specs.Prelude.{◌≡◌, ◌≤◌, length};
+ghost use Rattle.report_text.specs.Report.{IsReport};
+
+use crate::Bound;
+use cpog_base::{Name, Names, Scenario};
+use gate_core::Encoding;
+use sqlite_items::Items;
+use std::marker::Model;
+
+/// The scenarios with their names, an encoding of them, and what is known of the least number of gates.
+#[derive(Drop)]
+pub struct Report {
+    bits: u8,
+    budget: u32,
+    names: Names,
+    scenario_names: Items<Name>,
+    scenarios: Items<Scenario>,
+    encoding: Encoding,
+    bound: Bound,
+}
+
+impl Model for Report {
+    ghost use Rattle.report_text.specs.Report.{ReportValue, IsReport};
+    ghost use Rattle.report_text.specs.Stored.{report_code};
+
+    ghost Value = { ReportValue };
+
+    ghost coded = { report_code };
+
+    ghost view = { λ r. record { bits = r.bits; budget = r.budget; names = r.names; scenario_names = r.scenario_names; scenarios = r.scenarios; encoding = r.encoding; bound = r.bound } };
+
+    ghost invariant = { λ r. IsReport (record { bits = r.bits; budget = r.budget; names = r.names; scenario_names = r.scenario_names; scenarios = r.scenarios; encoding = r.encoding; bound = r.bound }) };
+}
+
+impl Report {
+    /// A report of these parts, which fit each other.
+    pub fn new(
+        bits: u8,
+        budget: u32,
+        names: Names,
+        scenario_names: Vec<Name>,
+        scenarios: Vec<Scenario>,
+        encoding: Encoding,
+        bound: Bound,
+    ) -> Report
+        requires { IsReport (record { bits = bits; budget = budget; names = names; scenario_names = scenario_names.items; scenarios = scenarios.items; encoding = encoding; bound = bound }) }
+        ensures { result ≡ record { bits = bits; budget = budget; names = names; scenario_names = scenario_names.items; scenarios = scenarios.items; encoding = encoding; bound = bound } }
+    {
+        Report {
+            bits,
+            budget,
+            names,
+            scenario_names: Items::from_vec(scenario_names),
+            scenarios: Items::from_vec(scenarios),
+            encoding,
+            bound,
+        }
+    }
+
+    /// How many bits a code has.
+    pub fn bits(&self) -> u8
+        ensures bits { result ≡ self.now.bits }
+        ensures report { IsReport self.now }
+    {
+        self.bits
+    }
+
+    /// How many numbers a search may read.
+    pub fn budget(&self) -> u32
+        ensures { result ≡ self.now.budget }
+    {
+        self.budget
+    }
+
+    /// The names of the operations, in number order.
+    pub fn names(&self) -> &Names
+        ensures { result.now ≡ self.now.names }
+    {
+        &self.names
+    }
+
+    /// The names of the scenarios.
+    pub fn scenario_names(&self) -> &[Name]
+        ensures { result.now ≡ self.now.scenario_names }
+    {
+        self.scenario_names.as_slice()
+    }
+
+    /// The scenarios.
+    pub fn scenarios(&self) -> &[Scenario]
+        ensures { result.now ≡ self.now.scenarios }
+    {
+        self.scenarios.as_slice()
+    }
+
+    /// The codes, gates and conditions.
+    pub fn encoding(&self) -> &Encoding
+        ensures { result.now ≡ self.now.encoding }
+    {
+        &self.encoding
+    }
+
+    /// What is known of the least number of gates.
+    pub fn bound(&self) -> Bound
+        ensures { result ≡ self.now.bound }
+    {
+        self.bound
+    }
+}

@@ -1,0 +1,59 @@
+//! The texts of signals, conditions and bits.
+ghost use Rattle.std.specs.Prelude.{◌≡◌, ◌++◌, ◌∷◌, [], ◌<◌, ◌≤◌, OnOk, string_bytes};
+ghost use Rattle.cpog_defs.specs.Codes.{bit};
+ghost use Rattle.report_text.specs.Rows.{digit, digits_of, signal_text, ref_text};
+
+use cpog_defs::types::Ref;
+use std::alloc::AllocError;
+use std::fmt::Write;
+
+/// Writes a signal over so many inputs.
+pub(crate) fn put_signal(out: &mut String, inputs: u8, number: u32) -> Result<(), AllocError>
+    ensures { OnOk result (string_bytes out.new ≡ string_bytes out.old ++ signal_text inputs number) }
+{
+    let inputs = u32::from(inputs);
+    if number < inputs {
+        write!(out, "x{number}")
+    } else {
+        write!(out, "g{}", number - inputs)
+    }
+}
+
+/// Writes a condition over so many inputs.
+pub(crate) fn put_ref(out: &mut String, inputs: u8, reference: Ref) -> Result<(), AllocError>
+    ensures { OnOk result (string_bytes out.new ≡ string_bytes out.old ++ ref_text inputs reference) }
+{
+    match reference {
+        Ref::Const(false) => out.push_str("0"),
+        Ref::Const(true) => out.push_str("1"),
+        Ref::Signal {
+            number,
+            negated: false,
+        } => put_signal(out, inputs, number),
+        Ref::Signal {
+            number,
+            negated: true,
+        } => {
+            out.push_str("!")?;
+            put_signal(out, inputs, number)
+        }
+    }
+}
+
+/// Writes the first bits of a word, that of weight 1 first.
+pub(crate) fn put_digits(out: &mut String, bits: u8, word: u8) -> Result<(), AllocError>
+    requires { bits ≤ 8 }
+    ensures { OnOk result (string_bytes out.new ≡ string_bytes out.old ++ digits_of bits word) }
+{
+    'bits: for i in 0..bits {
+        out.push_str(digit_text(word, i))?;
+    }
+    Ok(())
+}
+
+fn digit_text(word: u8, i: u8) -> &'static str
+    requires { i < 8 }
+    ensures { result.now ≡ digit (bit word i) ∷ [] }
+{
+    if (word >> i) & 1 == 1 { "1" } else { "0" }
+}
