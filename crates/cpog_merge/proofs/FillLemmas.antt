@@ -20,20 +20,24 @@ module _ {A B : Type 0} (f : A → B) (free : B) (xs : List A) where
 
 -- ---- the sets that are covered
 
+-- one more scenario
 pub covered-append : (v : ℕ) (orders : List Order) (sets : List Set) (o : Order) (s : Set) → AreCoveredBy v orders sets → ((u : ℕ) → set.contains s u ≡ is_covered o u v) → AreCoveredBy v (orders ++ o ∷ []) (sets ++ s ∷ [])
 covered-append v [] [] o s h is = (is, tt)
 covered-append v (x ∷ orders) (y ∷ sets) o s h is = (h.0, covered-append v orders sets o s h.1 is)
 covered-append v orders sets o s h is = absurd h
 
+-- the next scenario of a list
 pub covered_more : (v : ℕ) (orders : List Order) (sets : List Set) (i : ℕ) (d : Order) (s : Set) → i < length orders → AreCoveredBy v (take i orders) sets →
     ((u : ℕ) → set.contains s u ≡ is_covered (get_or orders i d) u v) → AreCoveredBy v (take (i + 1) orders) (sets ++ s ∷ [])
 covered_more v orders sets i d s l h is = rw (take_more orders i d l) (covered-append v (take i orders) sets (get_or orders i d) s h is)
 
+-- one set a scenario
 pub covered_length : (v : ℕ) (orders : List Order) (sets : List Set) → AreCoveredBy v orders sets → length sets ≡ length orders
 covered_length v [] [] h = refl
 covered_length v (o ∷ orders) (s ∷ sets) h = let ih = covered_length v orders sets h.1 in omega (arith, ih)
 covered_length v orders sets h = absurd h
 
+-- the set of the scenario at a place
 pub covered_at : (v : ℕ) (orders : List Order) (sets : List Set) (i : ℕ) (d : Order) (e : Set) → AreCoveredBy v orders sets → i < length orders →
     (u : ℕ) → set.contains (get_or sets i e) u ≡ is_covered (get_or orders i d) u v
 covered_at v [] [] i d e h l u = absurd (omega arith)

@@ -35,19 +35,23 @@ module _ {A : Type 0} (f : ℕ → List A) (m : ℕ) (each : (i : ℕ) → lengt
         get_or_append_left (each_below f n) (f n) d (i * m + j) inside ∙ get-blocks n i j d (omega arith) k
   ]
 
+-- what holds in each list holds in all
 All-blocks : {A : Type 0} (P : A → Type 0) (f : ℕ → List A) (n : ℕ) → ((i : ℕ) → All P (f i)) → All P (each_below f n)
 All-blocks P f zero each = λ k d l. absurd (omega arith)
 All-blocks P f (suc n) each = All-append P (each_below f n) (f n) (All-blocks P f n each) (each n)
 
+-- what holds of the one element
 All-one : {A : Type 0} (P : A → Type 0) (x : A) → P x → All P (x ∷ [])
 All-one P x h zero d l = h
 All-one P x h (suc k) d l = absurd (omega arith)
 
 -- ---- the table of some scenarios
 
+-- a column has an entry for each scenario
 size : (orders : List Order) (p : Place) → length (column orders p) ≡ length orders
 size orders p = length-map orders _
 
+-- the table with these columns in their places
 abbrev pub table_of : List Order → ℕ → Table
 table_of orders n = record { count = n; scenarios = length orders; ops = op_columns_of orders n; arcs = arc_columns_of orders n n }
 
@@ -58,9 +62,11 @@ op_column_of orders v = column orders (Op (record { 0 = v })) ∷ []
 abbrev arc_column_of : List Order → ℕ → ℕ → List (List Bit3)
 arc_column_of orders v u = column orders (Arc (record { 0 = u }) (record { 0 = v })) ∷ []
 
+-- a column for each first operation
 length-into : (orders : List Order) (n v : ℕ) → length (arc_columns_into orders n v) ≡ n
 length-into orders n v = length-blocks (arc_column_of orders v) 1 (λ u. refl) n ∙ omega arith
 
+-- it is a table
 pub is_table : (orders : List Order) (n : ℕ) → n ≤ 128 → length orders ≤ 64 → IsTable (table_of orders n)
 is_table orders n few_ops few_scenarios =
     let P : List Bit3 → Type 0 = λ c. length c ≡ length orders in
@@ -76,19 +82,24 @@ is_table orders n few_ops few_scenarios =
           (λ u. All-one P (column orders (Arc (record { 0 = u }) (record { 0 = v }))) (size orders (Arc (record { 0 = u }) (record { 0 = v })))));
     }
 
+-- the place in lists of one
 single : (n : ℕ) → n * 1 + 0 ≡ n
 single n = omega arith
 
+-- an operation's column stands in its place
 pub op_there : (orders : List Order) (n v : ℕ) → v < n → get_or (op_columns_of orders n) v [] ≡ column orders (Op (record { 0 = v }))
 op_there orders n v l = ap (λ k. get_or (op_columns_of orders n) k []) (sym (single v)) ∙ get-blocks (op_column_of orders) 1 (λ i. refl) n v 0 [] l (omega arith)
 
+-- a pair's column stands in its place among those with its second
 into_there : (orders : List Order) (n u v : ℕ) → u < n → get_or (arc_columns_into orders n v) u [] ≡ column orders (Arc (record { 0 = u }) (record { 0 = v }))
 into_there orders n u v l = ap (λ k. get_or (arc_columns_into orders n v) k []) (sym (single u)) ∙ get-blocks (arc_column_of orders v) 1 (λ i. refl) n u 0 [] l (omega arith)
 
+-- and among all
 pub arc_there : (orders : List Order) (n u v : ℕ) → u < n → v < n → get_or (arc_columns_of orders n n) (v * n + u) [] ≡ column orders (Arc (record { 0 = u }) (record { 0 = v }))
 arc_there orders n u v l m =
     get-blocks (arc_columns_into orders n) n (length-into orders n) n v u [] m l ∙ into_there orders n u v l
 
+-- the columns of the table are those that are defined
 pub are_columns : (orders : List Order) (n : ℕ) → n ≡ count_of orders → AreColumnsOf orders (table_of orders n)
 are_columns orders n is = record { count = is; scenarios = refl; columns = at }
   where
@@ -96,6 +107,7 @@ are_columns orders n is = record { count = is; scenarios = refl; columns = at }
     at (Op v) l = op_there orders n v.0 (rw is l)
     at (Arc u v) l = arc_there orders n u.0 v.0 (rw is l.0) (rw is l.1)
 
+-- the count of the first order
 pub first_count : (orders : List Order) (d : Order) → 0 < length orders → (get_or orders 0 d).count ≡ count_of orders
 first_count [] d l = absurd (omega arith)
 first_count (o ∷ orders) d l = refl

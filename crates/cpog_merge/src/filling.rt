@@ -143,3 +143,38 @@ pub fn merge(alloc: Global, orders: &[Order]) -> Result<Columns, Memory>
     let arcs = arc_columns(alloc, orders, count)?;
     Ok(Columns::from_vecs(count, orders.len() as u8, ops, arcs))
 }
+
+#[cfg(test)]
+mod tests {
+    use super::*;
+    use std::test::Fail;
+
+    fn chain(alloc: Global) -> Result<Order, Memory> {
+        let mut first = OpSet::empty();
+        first.insert(OpId(0));
+        let mut both = first;
+        both.insert(OpId(1));
+        let mut before = Vec::new(alloc);
+        before.push(OpSet::empty())?;
+        before.push(first)?;
+        Ok(Order::from_sets(both, before))
+    }
+
+    #[test]
+    fn asks_for_the_pair_of_a_chain(rt: HostRuntime) -> Result<(), Fail> {
+        let order = chain(rt.alloc())?;
+        // What makes it an order is known once its count is read.
+        let _count = order.count();
+        let mut orders = Vec::new(rt.alloc());
+        orders.push(order)?;
+        let columns = merge(rt.alloc(), &orders)?;
+        assert_eq!(rt; columns.count(), 2);
+        assert_eq!(rt; columns.scenarios(), 1);
+        let forwards = columns.arc(OpId(0), OpId(1));
+        assert!(rt; forwards.has_one());
+        let backwards = columns.arc(OpId(1), OpId(0));
+        assert!(rt; backwards.has_zero());
+        assert!(rt; columns.op(OpId(0)).has_one());
+        Ok(())
+    }
+}

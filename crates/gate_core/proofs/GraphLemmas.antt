@@ -8,11 +8,11 @@ use Rattle.cpog_defs.specs.Graphs.{ConditionalGraph}
 use Rattle.gate_core.specs.Square.{IsSquare}
 
 -- a row of the view is the view of the row
-pub row_seen : {V : Type 0} (f : V → List Ref) (rows : List V) (u : ℕ) (row : V) → u < length rows → row ≡ slice_index_or rows u row → slice_index_or (map f rows) u [] ≡ f row
+pub row_seen : {V A : Type 0} (f : V → List A) (rows : List V) (u : ℕ) (row : V) → u < length rows → row ≡ slice_index_or rows u row → slice_index_or (map f rows) u [] ≡ f row
 row_seen f rows u row l is = get_or-map f rows u row [] l ∙ ap f (sym is)
 
 -- a change in one row of the view is a change of that row
-pub row_changed : {V : Type 0} (f : V → List Ref) (rows : List V) (u v : ℕ) (r : Ref) (row new : V) → u < length rows → row ≡ slice_index_or rows u row → f new ≡ slice_set (f row) v r →
+pub row_changed : {V A : Type 0} (f : V → List A) (rows : List V) (u v : ℕ) (r : A) (row new : V) → u < length rows → row ≡ slice_index_or rows u row → f new ≡ slice_set (f row) v r →
     map f (slice_set rows u new) ≡ slice_set (map f rows) u (slice_set (slice_index_or (map f rows) u []) v r)
 row_changed f rows u v r row new l is changed = map-set f rows u new ∙ ap (λ z. slice_set (map f rows) u z) (changed ∙ ap (λ z. slice_set z v r) (sym (row_seen f rows u row l is)))
 
@@ -38,22 +38,22 @@ square_with_arc graph u v r square l differ =
       ];
     }
 
--- a list of constants 0 has no other condition
-zeros_at : (n i : ℕ) → slice_index_or (replicate n (Const false)) i (Const false) ≡ Const false
-zeros_at zero i = refl
-zeros_at (suc n) zero = refl
-zeros_at (suc n) (suc i) = zeros_at n i
+-- a list of equal entries, read past the end as that entry too
+pub replicate_at : {A : Type 0} (n i : ℕ) (d : A) → slice_index_or (replicate n d) i d ≡ d
+replicate_at zero i d = refl
+replicate_at (suc n) zero d = refl
+replicate_at (suc n) (suc i) d = replicate_at n i d
 
 -- so many equal rows, read past the end as the empty row
-equal_rows_at : (row : List Ref) (n u v : ℕ) → slice_index_or row v (Const false) ≡ Const false → slice_index_or (slice_index_or (replicate n row) u []) v (Const false) ≡ Const false
-equal_rows_at row zero u v is = refl
-equal_rows_at row (suc n) zero v is = is
-equal_rows_at row (suc n) (suc u) v is = equal_rows_at row n u v is
+pub replicate_row_at : {A : Type 0} (row : List A) (n u v : ℕ) (d : A) → slice_index_or row v d ≡ d → slice_index_or (slice_index_or (replicate n row) u []) v d ≡ d
+replicate_row_at row zero u v d is = refl
+replicate_row_at row (suc n) zero v d is = is
+replicate_row_at row (suc n) (suc u) v d is = replicate_row_at row n u v d is
 
-length_of_row : (row : List Ref) (n u : ℕ) → u < n → length (slice_index_or (replicate n row) u []) ≡ length row
-length_of_row row zero u l = absurd (omega arith)
-length_of_row row (suc n) zero l = refl
-length_of_row row (suc n) (suc u) l = length_of_row row n u (omega arith)
+pub length-replicate_row : {A : Type 0} (row : List A) (n u : ℕ) → u < n → length (slice_index_or (replicate n row) u []) ≡ length row
+length-replicate_row row zero u l = absurd (omega arith)
+length-replicate_row row (suc n) zero l = refl
+length-replicate_row row (suc n) (suc u) l = length-replicate_row row n u (omega arith)
 
 -- the graph of constants 0
 pub square_of_zeros : (n : ℕ) → n ≤ 128 → IsSquare (record { ops = replicate n (Const false); arcs = replicate n (replicate n (Const false)) })
@@ -62,8 +62,8 @@ square_of_zeros n few =
     record {
       few = rw long few;
       arcs = length-replicate n (replicate n (Const false)) ∙ sym long;
-      rows = λ u l. length_of_row (replicate n (Const false)) n u (rw long at l);
-      diagonal = λ u. equal_rows_at (replicate n (Const false)) n u u (zeros_at n u);
+      rows = λ u l. length-replicate_row (replicate n (Const false)) n u (rw long at l);
+      diagonal = λ u. replicate_row_at (replicate n (Const false)) n u u (Const false) (replicate_at n u (Const false));
     }
 
 pub zero_graph : (n : ℕ) {ops : List Ref} {arcs : List (List Ref)} → ops ≡ replicate n (Const false) → arcs ≡ replicate n (replicate n (Const false)) →

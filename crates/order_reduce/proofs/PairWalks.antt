@@ -1,10 +1,10 @@
 -- The walks of the covered pairs are the order.
-use Rattle.std.proofs.Common.{◌≡◌, ◌↔◌, ◌⊎◌, ℕ, zero, suc, ◌<◌, ◌==◌, Bool, true, false, if◌then◌else◌, IsTrue, List, [], ◌∷◌, ◌++◌, length, get_or, refl, sym, ap, ◌∙◌, subst, inl, inr, arith}
+use Rattle.std.proofs.Common.{◌≡◌, ◌↔◌, ℕ, zero, suc, ◌<◌, Bool, true, false, if◌then◌else◌, IsTrue, List, [], ◌∷◌, refl, ap, subst, inl, inr, arith}
 use Rattle.std.specs.List.{Contains}
-use Rattle.std.proofs.lemmas.Bool.{cases_Bool, cases_lt, cases_eq, both_ways}
+use Rattle.std.proofs.lemmas.Bool.{cases_eq}
 use Rattle.std.proofs.lemmas.List.Elements.{Contains-append_left, Contains-append_right, Contains-append_cases}
 use Rattle.cpog_defs.specs.declared.types.OpId.{OpId}
-use Rattle.cpog_defs.specs.Walks.{Walk, last, more, IsCovered}
+use Rattle.cpog_defs.specs.Walks.{Walk, last}
 use Rattle.cpog_defs.specs.Orders.{Order, IsOrder, is_before, is_covered, each_below, arc_of, covering_pairs}
 use Rattle.cpog_defs.proofs.WalkLemmas.{replaced, covered_walk, walk_covered}
 use Rattle.order_reduce.proofs.CoveredLemmas.{covered_tells, covered_from}

@@ -7,4 +7,4 @@ mod laws;
 mod reduction;
 
 pub use laws::{covers_are_few, covers_keep_walks};
-pub use reduction::{covered_by, covers};
+pub use reduction::{covered_by, covered_rows, covers};

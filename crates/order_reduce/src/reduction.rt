@@ -80,11 +80,22 @@ mod tests {
     use super::*;
     use std::test::Fail;
 
+    fn chain(alloc: Global) -> Result<Order, Memory> {
+        let mut first = OpSet::empty();
+        first.insert(OpId(0));
+        let mut both = first;
+        both.insert(OpId(1));
+        let mut before = Vec::new(alloc);
+        before.push(OpSet::empty())?;
+        before.push(first)?;
+        Ok(Order::from_sets(both, before))
+    }
+
     #[test]
-    fn lists_no_pair_of_an_empty_order(rt: HostRuntime) -> Result<(), Fail> {
-        let order = Order::from_sets(OpSet::empty(), Vec::new(rt.alloc()));
+    fn lists_the_pair_of_a_chain(rt: HostRuntime) -> Result<(), Fail> {
+        let order = chain(rt.alloc())?;
         let pairs = covers(rt.alloc(), &order)?;
-        assert_eq!(rt; pairs.len(), 0);
+        assert_eq!(rt; pairs.as_slice(), [(OpId(0), OpId(1))].as_slice());
         Ok(())
     }
 }

@@ -133,3 +133,28 @@ pub fn closure(alloc: Global, scenario: &Scenario) -> Result<Order, CycleFault>
         None => Ok(Order::from_sets(scenario.ops(), rows)),
     }
 }
+
+#[cfg(test)]
+mod tests {
+    use super::*;
+    use std::test::Fail;
+
+    #[test]
+    fn closes_a_chain(rt: HostRuntime) -> Result<(), Fail> {
+        let mut scenario = Scenario::new(rt.alloc(), 3);
+        for v in 0..3 {
+            scenario.add_op(OpId(v));
+        }
+        for (u, v) in [(OpId(1), OpId(2)), (OpId(0), OpId(1))] {
+            if scenario.ops().contains(u) && scenario.ops().contains(v) {
+                scenario.add_arc(u, v)?;
+            }
+        }
+        let order = closure(rt.alloc(), &scenario)?;
+        assert_eq!(rt; order.count(), 3);
+        assert!(rt; order.before(OpId(1)).contains(OpId(0)));
+        assert!(rt; order.before(OpId(2)).contains(OpId(0)));
+        assert!(rt; order.before(OpId(2)).contains(OpId(1)));
+        Ok(())
+    }
+}

@@ -1,7 +1,6 @@
-use Rattle.std.proofs.Common.{◌∙◌, refl, ap, ◌&&◌, not}
+use Rattle.std.proofs.Common.{◌∙◌, refl, ap}
 use Rattle.std.specs.FinSet as set
 use Rattle.std.specs.Cmp.{nat_cmp_total}
-use Rattle.cpog_defs.specs.Orders.{is_before}
 use Rattle.order_reduce.proofs.reduction.covered_by.Goals as goal
 
 pub returns : goal.returns

@@ -1,6 +1,5 @@
-use Rattle.std.proofs.Common.{◌≡◌, ◌∙◌, arith, refl}
+use Rattle.std.proofs.Common.{◌≡◌, ◌∙◌, arith}
 use Rattle.cpog_defs.specs.Orders.{covering_pairs}
-use Rattle.order_reduce.specs.Rows.{pairs_from}
 use Rattle.order_reduce.proofs.PairLemmas.{all_pairs}
 use Rattle.order_reduce.proofs.PairWalks.{pairs_walk}
 use Rattle.order_reduce.proofs.PairCount.{few_covers}
