@@ -1,1 +1,2 @@
 pub mod SplittingLemmas
+pub mod TellingLemmas

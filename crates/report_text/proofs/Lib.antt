@@ -1,1 +1,6 @@
 pub mod WritingLemmas
+pub mod BelowLemmas
+pub mod WordLemmas
+pub mod RowLemmas
+pub mod ScenarioLemmas
+pub mod LawLemmas

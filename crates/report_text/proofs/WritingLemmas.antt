@@ -1,11 +1,10 @@
 -- Texts that grow piece by piece.
-use Rattle.std.proofs.Common.{◌≡◌, ℕ, ◌+◌, suc, Bool, true, false, List, [], ◌∷◌, ◌++◌, map, length, take, get_or, refl, sym, ap, ap₂, ◌∙◌, append_assoc, add-one, arith, subst, ◌<◌, Some}
+use Rattle.std.proofs.Common.{◌≡◌, ℕ, ◌+◌, List, [], ◌∷◌, ◌++◌, map, length, take, get_or, sym, ap, ap₂, ◌∙◌, append_assoc, add-one, arith, subst, ◌<◌, Some}
 use Rattle.std.specs.List.{Contains, slice_get}
 use Rattle.std.specs.FinSet as set
 use Rattle.std.proofs.lemmas.Option.{slice_get_within, get_or_from_slice_get}
 use Rattle.std.specs.Prelude.{if◌then◌else◌, codes}
 use Rattle.std.specs.Fmt.{decimal}
-use Rattle.std.specs.List.{flat_map}
 use Rattle.std.proofs.lemmas.List.{append-nil, map-append, take_more, get_or_default}
 use Rattle.std.proofs.lemmas.List.Concat.{flat_map-append}
 use Rattle.cpog_defs.specs.Orders.{Set, each_below}
@@ -149,8 +148,8 @@ head_joined a bits budget names =
     ∙ append_assoc a (first ++ (bits ++ (second ++ (budget ++ third)))) rest
     ∙ ap (λ x. a ++ (first ++ x)) (append_assoc bits (second ++ (budget ++ third)) rest ∙ ap (λ x. bits ++ (second ++ x)) (append_assoc budget third rest))
     ∙ ap (λ x. a ++ (first ++ x)) (sym (
-      append_assoc bits (10 ∷ []) (text_of ((codes "budget " ++ budget) ∷ (codes "operations" ++ names) ∷ []))
-      ∙ ap (λ x. bits ++ (second ++ x)) (append_assoc budget (10 ∷ []) (text_of ((codes "operations" ++ names) ∷ [])) ∙ ap (λ x. budget ++ (third ++ x)) (append-nil rest))))
+    append_assoc bits (10 ∷ []) (text_of ((codes "budget " ++ budget) ∷ (codes "operations" ++ names) ∷ []))
+    ∙ ap (λ x. bits ++ (second ++ x)) (append_assoc budget (10 ∷ []) (text_of ((codes "operations" ++ names) ∷ [])) ∙ ap (λ x. budget ++ (third ++ x)) (append-nil rest))))
 
 pub head_written : (r : ReportValue) (bits budget : ℕ) (names : List (List ℕ)) (a o1 o2 o3 : List ℕ) → bits ≡ r.bits → budget ≡ r.budget → names ≡ r.names
     → o1 ≡ a ++ (codes "cpog report 1\nbits " ++ (decimal bits ++ (codes "\nbudget " ++ (decimal budget ++ codes "\noperations")))) → o2 ≡ o1 ++ blank_names names → o3 ≡ o2 ++ 10 ∷ [] → o3 ≡ a ++ text_of (head_lines r)

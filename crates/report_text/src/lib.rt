@@ -7,10 +7,12 @@
 #![tactic(auto)]
 
 mod bound;
+mod laws;
 mod report;
 mod signals;
 mod writing;
 
 pub use bound::Bound;
+pub use laws::text_tells_report;
 pub use report::Report;
 pub use writing::write_report;

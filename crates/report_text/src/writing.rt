@@ -33,7 +33,12 @@ pub fn write_report(alloc: Global, report: &Report) -> Result<Vec<u8>, Memory>
 fn put_head(out: &mut String, report: &Report) -> Result<(), AllocError>
     ensures { OnOk result (string_bytes out.new ≡ string_bytes out.old ++ text_of (head_lines report.now)) }
 {
-    write!(out, "cpog report 1\nbits {}\nbudget {}\noperations", report.bits(), report.budget())?;
+    write!(
+        out,
+        "cpog report 1\nbits {}\nbudget {}\noperations",
+        report.bits(),
+        report.budget()
+    )?;
     put_names(out, report.names())?;
     out.push_str("\n")?;
     Ok(())
@@ -143,7 +148,12 @@ fn put_gate(out: &mut String, bits: u8, g: usize, gate: &Gate) -> Result<(), All
     Ok(())
 }
 
-fn put_ops(out: &mut String, bits: u8, names: &Names, graph: &ConditionalGraph) -> Result<(), AllocError>
+fn put_ops(
+    out: &mut String,
+    bits: u8,
+    names: &Names,
+    graph: &ConditionalGraph,
+) -> Result<(), AllocError>
     requires { length graph.now.ops ≡ length names.now }
     ensures { OnOk result (string_bytes out.new ≡ string_bytes out.old ++ text_of (op_lines bits names.now graph.now)) }
 {
@@ -162,7 +172,12 @@ fn put_op(out: &mut String, bits: u8, name: &str, condition: Ref) -> Result<(), 
     Ok(())
 }
 
-fn put_arcs(out: &mut String, bits: u8, names: &Names, graph: &ConditionalGraph) -> Result<(), AllocError>
+fn put_arcs(
+    out: &mut String,
+    bits: u8,
+    names: &Names,
+    graph: &ConditionalGraph,
+) -> Result<(), AllocError>
     requires { length graph.now.ops ≡ length names.now }
     ensures { OnOk result (string_bytes out.new ≡ string_bytes out.old ++ text_of (arc_lines bits names.now graph.now)) }
 {
@@ -185,7 +200,13 @@ fn put_arcs_from(
 {
     let first = names.get(u32::from(u.0));
     'seconds: for v in 0..graph.count() {
-        put_arc(out, bits, first, names.get(u32::from(v)), graph.arc(u, OpId(v)))?;
+        put_arc(
+            out,
+            bits,
+            first,
+            names.get(u32::from(v)),
+            graph.arc(u, OpId(v)),
+        )?;
     }
     Ok(())
 }

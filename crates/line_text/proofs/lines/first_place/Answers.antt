@@ -1,4 +1,4 @@
-use Rattle.std.proofs.Common.{arith, sym, ◌<◌, length, eqb, eq-eqb}
+use Rattle.std.proofs.Common.{arith, sym, length, eqb, eq-eqb}
 use Rattle.std.proofs.lemmas.List.Sums.{position_or_len_is}
 use Rattle.line_text.proofs.lines.first_place.Goals as goal
 

@@ -1,0 +1,154 @@
+-- The words of a report's lines tell what they stand for.
+use Rattle.std.proofs.Common.{◌≡◌, ℕ, zero, suc, ◌-◌, ◌^◌, ◌<◌, ◌≤◌, Bool, true, false, ltb, eqb, List, [], ◌∷◌, ◌++◌, map, length, get_or, refl, sym, ap, ap₂, ◌∙◌, ◌⊎◌, inl, inr, arith, subst}
+use Rattle.std.specs.List.{AllByRecursion}
+use Rattle.std.specs.Fmt.{decimal}
+use Rattle.std.specs.Str.{bytes_eq}
+use Rattle.std.proofs.lemmas.Bool.{cases_lt, ltb-true, lt-ltb}
+use Rattle.std.proofs.lemmas.Slice.Eq.{bytes_eq-Decides}
+use Rattle.std.proofs.lemmas.Map.Keys.{apart_from_distinct}
+use Rattle.std.proofs.lemmas.Fmt.{decimal_injective}
+use Rattle.std.proofs.lemmas.Nat.Bits.{same_from_bits_below, bit_at-lt}
+use Rattle.cpog_base.specs.Names.{AreDistinct}
+use Rattle.cpog_defs.specs.Codes.{word_bits}
+use Rattle.cpog_defs.specs.Gates.{IsRefOver}
+use Rattle.cpog_defs.specs.declared.types.Ref.{Ref}
+use Rattle.cpog_defs.specs.declared.types.Ref.TheVariants.{Const, Signal}
+use Rattle.gate_core.proofs.GateLemmas.{get_or-word_bits}
+use Rattle.line_text.specs.Words.{continues_name}
+use Rattle.line_text.proofs.TellingLemmas.{AllPass, apart, word_told, heads, tails, decimal_continues}
+use Rattle.report_text.specs.Rows.{digit, digits_of, signal_text, ref_text, name_of}
+
+-- ---- digits
+
+digit_passes : (b : Bool) → continues_name (digit b) ≡ true
+digit_passes true = refl
+digit_passes false = refl
+
+digits_pass : (bs : List Bool) → AllPass continues_name (map digit bs)
+digits_pass [] = tt
+digits_pass (b ∷ bs) = (digit_passes b, digits_pass bs)
+
+digit_is : (a b : Bool) → digit a ≡ digit b → a ≡ b
+digit_is true true e = refl
+digit_is true false e = absurd (omega (arith, e))
+digit_is false true e = absurd (omega (arith, e))
+digit_is false false e = refl
+
+digits_are : (as' bs : List Bool) → map digit as' ≡ map digit bs → as' ≡ bs
+digits_are [] [] e = refl
+digits_are [] (b ∷ bs) e = absurd cc
+digits_are (a ∷ as') [] e = absurd cc
+digits_are (a ∷ as') (b ∷ bs) e = ap₂ (λ (z : Bool) (zs : List Bool). z ∷ zs) (digit_is a b (heads _ _ _ _ e)) (digits_are as' bs (tails _ _ _ _ e))
+
+same_bit : (x y : ℕ) → x < 2 → y < 2 → eqb x 1 ≡ eqb y 1 → x ≡ y
+same_bit zero zero hx hy e = refl
+same_bit zero (suc zero) hx hy e = absurd cc
+same_bit zero (suc (suc y)) hx hy e = absurd (omega arith)
+same_bit (suc zero) zero hx hy e = absurd cc
+same_bit (suc zero) (suc zero) hx hy e = refl
+same_bit (suc zero) (suc (suc y)) hx hy e = absurd (omega arith)
+same_bit (suc (suc x)) y hx hy e = absurd (omega arith)
+
+word_is : (n v w : ℕ) → v < 2 ^ n → w < 2 ^ n → word_bits v n ≡ word_bits w n → v ≡ w
+word_is n v w hv hw e = same_from_bits_below n v w hv hw (λ i lt. same_bit _ _ (bit_at-lt v i) (bit_at-lt w i) (sym (get_or-word_bits v n i lt) ∙ ap (λ (bs : List Bool). get_or bs i false) e ∙ get_or-word_bits w n i lt))
+
+-- the digits of a word, up to the line's end
+pub digits_told : (n v w : ℕ) (x y : List ℕ) → v < 2 ^ n → w < 2 ^ n → digits_of n v ++ 10 ∷ x ≡ digits_of n w ++ 10 ∷ y → (v ≡ w) × (x ≡ y)
+digits_told n v w x y hv hw e =
+    let r = word_told continues_name (digits_of n v) (digits_of n w) 10 x y (digits_pass (word_bits v n)) (digits_pass (word_bits w n)) refl e in
+    (word_is n v w hv hw (digits_are (word_bits v n) (word_bits w n) r.0), r.1)
+
+-- ---- signals and conditions
+
+prefixed : (b : ℕ) (n : ℕ) → n < 2 ^ 64 → continues_name b ≡ true → AllPass continues_name (b ∷ decimal n)
+prefixed b n lt h = (h, decimal_continues n lt)
+
+signal_cases : (inputs n : ℕ) → ((n < inputs) × (signal_text inputs n ≡ 120 ∷ decimal n)) ⊎ ((inputs ≤ n) × (signal_text inputs n ≡ 103 ∷ decimal (n - inputs)))
+signal_cases inputs n = elim (cases_lt n inputs) [
+  | inl l ↦ inl (l, rw (lt-ltb n inputs l) refl)
+  | inr g ↦ inr (g, rw (ge-ltb n inputs g) refl)
+]
+  where
+    ge-ltb : (m k : ℕ) → k ≤ m → ltb m k ≡ false
+    ge-ltb m k h = false_where (ltb m k) (λ e. (let l : m < k = ltb-true m k e in omega arith))
+      where
+        false_where : (b : Bool) → (b ≡ true → ⊥) → b ≡ false
+        false_where true h = absurd (h refl)
+        false_where false h = refl
+
+pub signal_passes : (inputs n : ℕ) → n < 2 ^ 64 → AllPass continues_name (signal_text inputs n)
+signal_passes inputs n lt = elim (signal_cases inputs n) [
+  | inl h ↦ subst (AllPass continues_name) (sym h.1) (prefixed 120 n lt refl)
+  | inr h ↦ subst (AllPass continues_name) (sym h.1) (prefixed 103 (n - inputs) (omega arith) refl)
+]
+
+pub signal_is : (inputs m n : ℕ) → m < 2 ^ 64 → n < 2 ^ 64 → signal_text inputs m ≡ signal_text inputs n → m ≡ n
+signal_is inputs m n hm hn e = elim (signal_cases inputs m) [
+  | inl a ↦ elim (signal_cases inputs n) [
+    | inl b ↦ decimal_injective m n hm hn (tails 120 120 _ _ (sym a.1 ∙ e ∙ b.1))
+    | inr b ↦ absurd (omega (arith, heads 120 103 _ _ (sym a.1 ∙ e ∙ b.1)))
+  ]
+  | inr a ↦ elim (signal_cases inputs n) [
+    | inl b ↦ absurd (omega (arith, heads 103 120 _ _ (sym a.1 ∙ e ∙ b.1)))
+    | inr b ↦ (let h = decimal_injective (m - inputs) (n - inputs) (omega arith) (omega arith) (tails 103 103 _ _ (sym a.1 ∙ e ∙ b.1)) in omega (arith, h, a.0, b.0))
+  ]
+]
+
+-- a signal, before a byte that no name has
+pub signal_told : (inputs m n c : ℕ) (x y : List ℕ) → m < 2 ^ 64 → n < 2 ^ 64 → continues_name c ≡ false → signal_text inputs m ++ c ∷ x ≡ signal_text inputs n ++ c ∷ y → (m ≡ n) × (x ≡ y)
+signal_told inputs m n c x y hm hn hc e =
+    let r = word_told continues_name (signal_text inputs m) (signal_text inputs n) c x y (signal_passes inputs m hm) (signal_passes inputs n hn) hc e in
+    (signal_is inputs m n hm hn r.0, r.1)
+
+-- a signal begins with a letter
+signal_head : (inputs n : ℕ) (x : List ℕ) → (b : ℕ) × (r : List ℕ) × (100 < b) × (signal_text inputs n ++ x ≡ b ∷ r)
+signal_head inputs n x = elim (signal_cases inputs n) [
+  | inl h ↦ (120, decimal n ++ x, omega arith, ap (λ (w : List ℕ). w ++ x) h.1)
+  | inr h ↦ (103, decimal (n - inputs) ++ x, omega arith, ap (λ (w : List ℕ). w ++ x) h.1)
+]
+
+not_signal : (inputs n b : ℕ) (x y : List ℕ) → b < 100 → signal_text inputs n ++ x ≡ b ∷ y → ⊥
+not_signal inputs n b x y small e = let h = signal_head inputs n x in omega (arith, small, h.2, heads _ _ _ _ (sym h.3 ∙ e))
+
+-- a condition, up to the line's end
+pub ref_told : (inputs signals : ℕ) (r s : Ref) (x y : List ℕ) → signals ≤ 2 ^ 64 → IsRefOver signals r → IsRefOver signals s → ref_text inputs r ++ 10 ∷ x ≡ ref_text inputs s ++ 10 ∷ y → (r ≡ s) × (x ≡ y)
+ref_told inputs signals (Const false) (Const false) x y fit hr hs e = (refl, tails _ _ _ _ (tails _ _ _ _ e))
+ref_told inputs signals (Const false) (Const true) x y fit hr hs e = absurd (omega (arith, heads 48 49 _ _ e))
+ref_told inputs signals (Const true) (Const false) x y fit hr hs e = absurd (omega (arith, heads 49 48 _ _ e))
+ref_told inputs signals (Const true) (Const true) x y fit hr hs e = (refl, tails _ _ _ _ (tails _ _ _ _ e))
+ref_told inputs signals (Const false) (Signal n false) x y fit hr hs e = absurd (not_signal inputs n 48 _ _ (omega arith) (sym e))
+ref_told inputs signals (Const true) (Signal n false) x y fit hr hs e = absurd (not_signal inputs n 49 _ _ (omega arith) (sym e))
+ref_told inputs signals (Const false) (Signal n true) x y fit hr hs e = absurd (omega (arith, heads 48 33 _ _ e))
+ref_told inputs signals (Const true) (Signal n true) x y fit hr hs e = absurd (omega (arith, heads 49 33 _ _ e))
+ref_told inputs signals (Signal m false) (Const false) x y fit hr hs e = absurd (not_signal inputs m 48 _ _ (omega arith) e)
+ref_told inputs signals (Signal m false) (Const true) x y fit hr hs e = absurd (not_signal inputs m 49 _ _ (omega arith) e)
+ref_told inputs signals (Signal m true) (Const false) x y fit hr hs e = absurd (omega (arith, heads 33 48 _ _ e))
+ref_told inputs signals (Signal m true) (Const true) x y fit hr hs e = absurd (omega (arith, heads 33 49 _ _ e))
+ref_told inputs signals (Signal m false) (Signal n false) x y fit hr hs e = let t = signal_told inputs m n 10 x y (omega arith) (omega arith) refl e in (ap (λ k. Signal k false) t.0, t.1)
+ref_told inputs signals (Signal m true) (Signal n true) x y fit hr hs e = let t = signal_told inputs m n 10 x y (omega arith) (omega arith) refl (tails _ _ _ _ e) in (ap (λ k. Signal k true) t.0, t.1)
+ref_told inputs signals (Signal m false) (Signal n true) x y fit hr hs e = absurd (not_signal inputs m 33 _ _ (omega arith) e)
+ref_told inputs signals (Signal m true) (Signal n false) x y fit hr hs e = absurd (not_signal inputs n 33 _ _ (omega arith) (sym e))
+
+-- ---- names
+
+empty_passes : (p : ℕ → Bool) (names : List (List ℕ)) (v : ℕ) → AllByRecursion (AllPass p) names → AllPass p (name_of names v)
+empty_passes p [] v h = tt
+empty_passes p (n ∷ ns) zero h = h.0
+empty_passes p (n ∷ ns) (suc v) h = empty_passes p ns v h.1
+
+-- each name of a list that has them passes, and the empty text past its end
+pub name_passes : (names : List (List ℕ)) (v : ℕ) → AllByRecursion (AllPass continues_name) names → AllPass continues_name (name_of names v)
+name_passes names v h = empty_passes continues_name names v h
+
+same_bytes : (bs cs : List ℕ) → bs ≡ cs → bytes_eq bs cs ≡ true
+same_bytes bs cs e = (bytes_eq-Decides bs cs).1 e
+
+-- different operations have different names
+pub name_is : (names : List (List ℕ)) (u v : ℕ) → AreDistinct names → u < length names → v < length names → name_of names u ≡ name_of names v → u ≡ v
+name_is names u v distinct hu hv e = elim (cases_lt u v) [
+  | inl l ↦ absurd (apart _ _ (same_bytes _ _ e) (apart_from_distinct bytes_eq names u v [] distinct l hv) refl)
+  | inr g ↦ elim (cases_lt v u) [
+    | inl l ↦ absurd (apart _ _ (same_bytes _ _ (sym e)) (apart_from_distinct bytes_eq names v u [] distinct l hu) refl)
+    | inr g' ↦ omega arith
+  ]
+]
