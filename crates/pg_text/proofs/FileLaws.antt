@@ -1,17 +1,15 @@
 -- What holds of each file that is read: its names are names, and its trees are of its operations and join two or more.
-use Rattle.std.specs.Prelude.{◌≡◌, ℕ, ◌+◌, ◌<◌, ◌≤◌, true, List, [], ◌∷◌, ◌++◌, length, Option, Some, None, refl}
-use Rattle.std.proofs.Common.{sym, ap, subst, arith, ◌∙◌}
+use Rattle.std.specs.Prelude.{◌≡◌, ℕ, ◌+◌, ◌≤◌, true, List, [], ◌∷◌, length, Option, Some, None}
+use Rattle.std.proofs.Common.{sym, subst, arith}
 use Rattle.std.specs.List.{AllByRecursion}
 use Rattle.pg_algebra.specs.declared.expr.Expr.{Expr, Op, Overlay', Sequence', Row_of-Expr, end_of-Expr, more_of-Expr}
 use Rattle.pg_algebra.specs.Shapes.{JoinsTwo, HasOpsBelow, HasOpsBelow_row}
 use Rattle.pg_algebra.proofs.ShapeLemmas.{JoinsTwo-Overlay, JoinsTwo-Sequence, HasOpsBelow-Overlay, HasOpsBelow-Sequence}
 use Rattle.pg_text.specs.declared.sign.Sign.TheVariants as signs
 use Rattle.pg_text.specs.declared.statement.Numbered.{Numbered}
-use Rattle.pg_text.specs.declared.statement.Statement.{Statement}
-use Rattle.pg_text.specs.declared.statement.Statement.TheVariants as statement
 use Rattle.line_text.specs.Words.{is_free_name}
-use Rattle.pg_text.specs.Tokens.{Token, name, scenario, sign, BeginsWithAll, Spells}
-use Rattle.pg_text.specs.Grammar.{Atom, named, Seq, last, arrow, Sum, single, plus, Sentence, scenario_line, atom_tokens, seq_tokens, sum_tokens, sentence_tokens, line_tokens, names_after_atom, names_after_seq, names_after_sum, names_after_sentence, names_after_line, atom_tree, seq_members, seq_tree, sum_members, sum_tree, sentence_tree, line_tree, sequence_of, overlay_of}
+use Rattle.pg_text.specs.Tokens.{sign, BeginsWithAll, Spells}
+use Rattle.pg_text.specs.Grammar.{Atom, named, Seq, last, arrow, Sum, single, plus, Sentence, scenario_line, atom_tokens, seq_tokens, sum_tokens, line_tokens, names_after_atom, names_after_seq, names_after_sum, names_after_line, atom_tree, seq_members, seq_tree, sum_members, sum_tree, line_tree, sequence_of, overlay_of}
 use Rattle.pg_text.specs.Text.{AreSpelled, put_statement, statements_from, names_after, IsStatementOver}
 use Rattle.pg_text.proofs.NameLemmas.{place-below, with_text-grows, all-with_text}
 use Rattle.pg_text.proofs.GrammarLaws.{parts_begin}

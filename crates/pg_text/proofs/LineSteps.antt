@@ -1,5 +1,5 @@
 -- A line is read as a head, an expression and an end.
-use Rattle.std.specs.Prelude.{◌≡◌, ◌≢◌, ℕ, List, [], ◌∷◌, ◌++◌, Option, Some, None, refl}
+use Rattle.std.specs.Prelude.{◌≡◌, ℕ, List, Some, None, refl}
 use Rattle.std.proofs.Common.{sym, ◌∙◌, ap, ap₂, subst}
 use Rattle.pg_algebra.specs.declared.expr.Expr.{Expr}
 use Rattle.pg_text.specs.declared.sign.Sign.TheVariants as signs
@@ -7,12 +7,12 @@ use Rattle.pg_text.specs.declared.fault.LineFault.{LineFault}
 use Rattle.pg_text.specs.declared.fault.LineFault.TheVariants as fault
 use Rattle.pg_text.specs.declared.statement.Statement.{Statement}
 use Rattle.pg_text.specs.declared.statement.Statement.TheVariants as statement
-use Rattle.pg_text.specs.Tokens.{Token, name, scenario, sign, BeginsWith, BeginsWithAll, HasNoToken, Spells}
+use Rattle.pg_text.specs.Tokens.{name, scenario, sign, BeginsWith, BeginsWithAll, HasNoToken}
 use Rattle.pg_text.specs.Faults.{IsDue}
-use Rattle.pg_text.specs.Grammar.{Sum, Sentence, scenario_line, head_tokens, sum_tokens, sentence_tokens, line_tokens}
+use Rattle.pg_text.specs.Grammar.{scenario_line, head_tokens, sum_tokens}
 use Rattle.pg_text.specs.Reading.{Lacks, ReadsSum, ReadsSentence, ReadsLine, NoSum, NoSentence, NoLine}
 use Rattle.pg_text.proofs.TokenLaws.{same_token}
-use Rattle.pg_text.proofs.GrammarLaws.{both_begin, parts_begin, same_sum, end_lacks, no_sentence, name_of}
+use Rattle.pg_text.proofs.GrammarLaws.{both_begin, parts_begin, same_sum, end_lacks, name_of}
 
 -- ---- the head
 

@@ -1,5 +1,5 @@
 -- Names, as each is put into the list.
-use Rattle.std.specs.Prelude.{◌≡◌, ℕ, ◌<◌, ◌≤◌, Bool, true, false, cond, ◌||◌, List, [], ◌∷◌, ◌++◌, length, Some, None, refl, if◌then◌else◌}
+use Rattle.std.specs.Prelude.{◌≡◌, ℕ, ◌<◌, ◌≤◌, Bool, true, false, cond, ◌||◌, List, [], ◌∷◌, ◌++◌, length, Some, None, refl}
 use Rattle.std.proofs.Common.{get_or, arith, zero, suc, inl, inr, length-append}
 use Rattle.std.specs.List.{list_any, position_or_len, AllByRecursion}
 use Rattle.std.proofs.lemmas.Bool.{ltb-true, cases_Bool}

@@ -5,9 +5,9 @@ use Rattle.pg_algebra.specs.declared.expr.Expr.{Expr}
 use Rattle.pg_text.specs.declared.sign.Sign.TheVariants as signs
 use Rattle.pg_text.specs.declared.fault.LineFault.{LineFault}
 use Rattle.pg_text.specs.declared.fault.LineFault.TheVariants as fault
-use Rattle.pg_text.specs.Tokens.{Token, name, sign, BeginsWith, BeginsWithAll}
+use Rattle.pg_text.specs.Tokens.{name, sign, BeginsWith, BeginsWithAll}
 use Rattle.pg_text.specs.Faults.{IsDue}
-use Rattle.pg_text.specs.Grammar.{Atom, named, Seq, last, arrow, atom_tokens, seq_tokens, seq_members, names_after_seq, sequence_of}
+use Rattle.pg_text.specs.Grammar.{named, Seq, last, arrow, atom_tokens, seq_tokens, seq_members, names_after_seq, sequence_of}
 use Rattle.pg_text.specs.Reading.{Lacks, ReadsAtom, ReadsSeq, NoAtom, NoSeq}
 use Rattle.pg_text.proofs.TokenLaws.{same_token}
 use Rattle.pg_text.proofs.GrammarLaws.{both_begin, parts_begin, same_atom}
@@ -31,13 +31,14 @@ only_at_first bytes s r h stops = (s, h)
 module _ (names0 names1 names2 : List (List ℕ)) (bytes left after : List ℕ) (front next : List Expr) (e : Expr)
     (found : FoundSeq names0 names1 bytes left front) (only : OnlySeq bytes left)
     (atom : ReadsAtom names1 left e names2 after) (is : next ≡ front ++ e ∷ []) where
-
   pub found_more : (rest : List ℕ) → BeginsWith after (sign signs.Arrow) rest → FoundSeq names0 names2 bytes rest next
   found_more rest goes_on s r h =
-      let w = found (arrow atom.atom s) r (both_begin (atom_tokens atom.atom) (sign signs.Arrow ∷ seq_tokens s) left after r atom.spelled (rest, goes_on, h)) in
-      (w.0, w.1,
+      let w = found (arrow atom.atom s) r (both_begin (atom_tokens atom.atom) (sign signs.Arrow ∷ seq_tokens s) left after r atom.spelled (rest, goes_on, h)) in (
+        w.0,
+        w.1,
         w.2 ∙ ap₂ (λ x n. front ++ x ∷ seq_members n s) (sym atom.means) (sym atom.named) ∙ sym (append_assoc front (e ∷ []) (seq_members names2 s)) ∙ ap (λ x. x ++ seq_members names2 s) (sym is),
-        w.3 ∙ ap (λ n. names_after_seq n s) (sym atom.named))
+        w.3 ∙ ap (λ n. names_after_seq n s) (sym atom.named),
+      )
 
   pub only_more : (rest : List ℕ) → BeginsWith after (sign signs.Arrow) rest → OnlySeq bytes rest
   only_more rest goes_on s r h stops = by (only s r h stops).0 (only s r h stops).1

@@ -5,9 +5,9 @@ use Rattle.pg_algebra.specs.declared.expr.Expr.{Expr}
 use Rattle.pg_text.specs.declared.sign.Sign.TheVariants as signs
 use Rattle.pg_text.specs.declared.fault.LineFault.{LineFault}
 use Rattle.pg_text.specs.declared.fault.LineFault.TheVariants as fault
-use Rattle.pg_text.specs.Tokens.{Token, sign, BeginsWith, BeginsWithAll}
+use Rattle.pg_text.specs.Tokens.{sign, BeginsWith, BeginsWithAll}
 use Rattle.pg_text.specs.Faults.{IsDue}
-use Rattle.pg_text.specs.Grammar.{Seq, Sum, single, plus, seq_tokens, sum_tokens, sum_members, names_after_sum, overlay_of}
+use Rattle.pg_text.specs.Grammar.{Sum, single, plus, seq_tokens, sum_tokens, sum_members, names_after_sum, overlay_of}
 use Rattle.pg_text.specs.Reading.{Lacks, ReadsSeq, ReadsSum, NoSeq, NoSum}
 use Rattle.pg_text.proofs.TokenLaws.{same_token}
 use Rattle.pg_text.proofs.GrammarLaws.{both_begin, parts_begin, same_seq, plus_lacks_arrow}
@@ -31,13 +31,14 @@ only_at_first bytes s r h arrow_stops stops = (s, h)
 module _ (names0 names1 names2 : List (List ℕ)) (bytes left after : List ℕ) (front next : List Expr) (e : Expr)
     (found : FoundSum names0 names1 bytes left front) (only : OnlySum bytes left)
     (seq : ReadsSeq names1 left e names2 after) (is : next ≡ front ++ e ∷ []) where
-
   pub found_more : (rest : List ℕ) → BeginsWith after (sign signs.Plus) rest → FoundSum names0 names2 bytes rest next
   found_more rest goes_on s r h =
-      let w = found (plus seq.seq s) r (both_begin (seq_tokens seq.seq) (sign signs.Plus ∷ sum_tokens s) left after r seq.spelled (rest, goes_on, h)) in
-      (w.0, w.1,
+      let w = found (plus seq.seq s) r (both_begin (seq_tokens seq.seq) (sign signs.Plus ∷ sum_tokens s) left after r seq.spelled (rest, goes_on, h)) in (
+        w.0,
+        w.1,
         w.2 ∙ ap₂ (λ x n. front ++ x ∷ sum_members n s) (sym seq.means) (sym seq.named) ∙ sym (append_assoc front (e ∷ []) (sum_members names2 s)) ∙ ap (λ x. x ++ sum_members names2 s) (sym is),
-        w.3 ∙ ap (λ n. names_after_sum n s) (sym seq.named))
+        w.3 ∙ ap (λ n. names_after_sum n s) (sym seq.named),
+      )
 
   pub only_more : (rest : List ℕ) → BeginsWith after (sign signs.Plus) rest → OnlySum bytes rest
   only_more rest goes_on s r h arrow_stops stops = by (only s r h arrow_stops stops).0 (only s r h arrow_stops stops).1

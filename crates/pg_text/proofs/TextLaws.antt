@@ -8,10 +8,9 @@ use Rattle.cpog_base.specs.declared.limits.Counted.TheVariants as counted
 use Rattle.pg_text.specs.declared.fault.FileFault.{FileFault}
 use Rattle.pg_text.specs.declared.fault.FileFault.TheVariants as fault
 use Rattle.pg_text.specs.Lines.{graph_lines, IsFirstBad}
-use Rattle.pg_text.specs.Tokens.{Spells}
-use Rattle.pg_text.specs.Grammar.{Sentence, line_tokens}
+use Rattle.pg_text.specs.Grammar.{Sentence}
 use Rattle.pg_text.specs.Contents.{Contents}
-use Rattle.pg_text.specs.Text.{IsGoodLine, AreSpelled, statements_from, names_after, IsReadAs, IsFileOf, HasManyScenarios, HasManyOperations, IsPassed, IsFileFault, IsFile}
+use Rattle.pg_text.specs.Text.{IsGoodLine, AreSpelled, statements_from, names_after, IsReadAs, IsFileOf, IsPassed, IsFileFault, IsFile}
 use Rattle.pg_text.proofs.GrammarLaws.{same_line}
 use Rattle.pg_text.proofs.FileLaws.{free-names, over-statements}
 

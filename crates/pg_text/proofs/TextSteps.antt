@@ -1,14 +1,12 @@
 -- A text that is read line by line.
-use Rattle.std.specs.Prelude.{◌≡◌, ℕ, ◌+◌, ◌<◌, List, [], ◌∷◌, ◌++◌, length, Option, Some, None, refl}
+use Rattle.std.specs.Prelude.{◌≡◌, ℕ, ◌+◌, List, [], ◌∷◌, ◌++◌, length, Option, Some, None, refl}
 use Rattle.std.proofs.Common.{sym, ◌∙◌, ap, ap₂, subst, arith, append_assoc, append-nil, length-append}
-use Rattle.std.specs.List.{AllByRecursion}
 use Rattle.pg_text.specs.declared.statement.Statement.{Statement}
 use Rattle.pg_text.specs.declared.statement.Numbered.{Numbered}
 use Rattle.pg_text.specs.Lines.{graph_lines, IsFirstBad}
 use Rattle.pg_text.specs.Tokens.{Spells}
 use Rattle.pg_text.specs.Grammar.{Sentence, line_tokens, line_tree, names_after_line}
 use Rattle.pg_text.specs.Reading.{ReadsLine, NoLine}
-use Rattle.pg_text.specs.Contents.{Contents}
 use Rattle.pg_text.specs.Text.{IsGoodLine, AreSpelled, put_statement, statements_from, names_after, IsReadAs}
 use Rattle.pg_text.proofs.TextLaws.{good_lines}
 
@@ -65,10 +63,10 @@ line_done bytes rest line after number statements next operations names_new tree
   count = omega (arith, done.count, length-append done.lines (line ∷ []));
   spelled = spelled_more done.sentences done.lines reads.sentence line done.spelled reads.spelled;
   statements_are =
-    is
-    ∙ ap₂ (λ x k. x ++ put_statement k tree []) done.statements_are (let e : number + 1 ≡ 1 + length done.sentences = omega (arith, done.count, as_many done.sentences done.lines done.spelled) in e)
-    ∙ ap (λ t. statements_from 1 [] done.sentences ++ put_statement (1 + length done.sentences) t []) (reads.means ∙ ap (λ n. line_tree n reads.sentence) done.operations_are)
-    ∙ sym (statements_more 1 [] done.sentences reads.sentence);
+      is
+      ∙ ap₂ (λ x k. x ++ put_statement k tree []) done.statements_are (let e : number + 1 ≡ 1 + length done.sentences = omega (arith, done.count, as_many done.sentences done.lines done.spelled) in e)
+      ∙ ap (λ t. statements_from 1 [] done.sentences ++ put_statement (1 + length done.sentences) t []) (reads.means ∙ ap (λ n. line_tree n reads.sentence) done.operations_are)
+      ∙ sym (statements_more 1 [] done.sentences reads.sentence);
   operations_are = reads.named ∙ ap (λ n. names_after_line n reads.sentence) done.operations_are ∙ sym (names_more [] done.sentences reads.sentence);
 }
 

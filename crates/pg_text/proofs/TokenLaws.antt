@@ -1,5 +1,5 @@
 -- One token stands at the front of some bytes at most, and a comment is none.
-use Rattle.std.specs.Prelude.{◌≡◌, ◌≢◌, ℕ, ◌+◌, ◌<◌, ◌≤◌, Bool, true, false, ◌&&◌, ◌||◌, ◌==◌, List, [], ◌∷◌, ◌++◌, length, refl, codes, Option, Some, None}
+use Rattle.std.specs.Prelude.{◌≡◌, ℕ, ◌<◌, Bool, true, false, ◌==◌, List, [], ◌∷◌, ◌++◌, length, refl, codes, Option, Some, None}
 use lib.Pointwise.{pointwise}
 use lib.Dec.{eqb}
 use Rattle.std.proofs.Common.{sym, ◌∙◌, ap, ap₂, subst, arith, length-append, suc, zero}
@@ -14,7 +14,7 @@ use Rattle.std.proofs.lemmas.Str.{IsUtf8-from_ascii}
 use Rattle.pg_text.specs.declared.sign.Sign.{Sign}
 use Rattle.pg_text.specs.declared.sign.Sign.TheVariants as signs
 use Rattle.line_text.specs.Words.{continues_name, is_free_name}
-use Rattle.pg_text.specs.Tokens.{Token, name, scenario, sign, sign_text, is_blank, NoneFirst, IsRun, StartsWith, BeginsWith, IsComment, HasNoToken}
+use Rattle.pg_text.specs.Tokens.{Token, name, scenario, sign, sign_text, is_blank, IsRun, StartsWith, BeginsWith, IsComment, HasNoToken}
 use Rattle.pg_text.proofs.Runs.{same_run}
 
 -- bytes of a word are ASCII

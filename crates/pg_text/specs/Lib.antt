@@ -5,3 +5,4 @@ pub mod Grammar
 pub mod Reading
 pub mod Contents
 pub mod Text
+pub mod Stored

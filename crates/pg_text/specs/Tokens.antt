@@ -1,5 +1,5 @@
 -- The tokens of a line and how they are spelled.
-use Rattle.std.specs.Prelude.{◌≡◌, ℕ, ◌<◌, Bool, true, false, ◌==◌, ◌||◌, List, [], ◌∷◌, ◌++◌, codes}
+use Rattle.std.specs.Prelude.{◌≡◌, ℕ, Bool, true, false, ◌==◌, ◌||◌, List, [], ◌∷◌, ◌++◌, codes}
 use Rattle.std.specs.List.{list_all}
 use Rattle.pg_text.specs.declared.sign.Sign.{Sign}
 use Rattle.pg_text.specs.declared.sign.Sign.TheVariants as signs

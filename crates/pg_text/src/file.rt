@@ -19,13 +19,11 @@ pub struct File {
 
 impl Model for File {
     ghost use Rattle.pg_text.specs.Contents.{Contents};
-
-    ghost use Rattle.std.specs.Coded.{codes};
-    ghost use Rattle.pg_algebra.specs.contracts.expr.Expr as expr;
+    ghost use Rattle.pg_text.specs.Stored.{contents_code};
 
     ghost Value = { Contents };
 
-    ghost coded = { Prim.hlevel (codes, expr.the_row.coded) };
+    ghost coded = { contents_code };
 
     ghost use Rattle.pg_text.specs.Text.{IsFile};
 

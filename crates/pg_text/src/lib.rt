@@ -17,6 +17,8 @@ mod reading;
 mod sign;
 mod statement;
 mod statements;
+#[cfg(test)]
+mod tests;
 mod tokens;
 
 pub use fault::FileFault;

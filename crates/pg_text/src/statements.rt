@@ -25,11 +25,7 @@ fn scenario_head(line: &[u8]) -> Option<(&str, &[u8])>
 }
 
 /// The statement of a line that isn't blank.
-fn statement_at(
-    alloc: Global,
-    operations: &mut Names,
-    line: &[u8],
-) -> Result<Statement, LineFault>
+fn statement_at(alloc: Global, operations: &mut Names, line: &[u8]) -> Result<Statement, LineFault>
     requires { length operations.old + length line.now < 2 ^ 32 - 1 }
     ensures found { IfOk result (λ s. ReadsSentence operations.old line.now s operations.new) }
     ensures room { OnOk result (length operations.new ≤ length operations.old + length line.now) }

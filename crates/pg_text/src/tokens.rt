@@ -94,7 +94,11 @@ pub fn after_scenario(bytes: &[u8]) -> Option<&[u8]>
 {
     let (_, after) = split_blanks(bytes);
     let (word, rest) = split_word(after);
-    if word == b"scenario".as_slice() { Some(rest) } else { None }
+    if word == b"scenario".as_slice() {
+        Some(rest)
+    } else {
+        None
+    }
 }
 
 /// A word as text.

@@ -1,4 +1,4 @@
-use Rattle.std.proofs.Common.{arith, ◌<◌, length}
+use Rattle.std.proofs.Common.{arith}
 use Rattle.std.proofs.lemmas.Result.{err_from_is_err_and}
 use Rattle.pg_text.proofs.SumSteps.{found_more, only_more, sum_ends, no_sum}
 use Rattle.pg_text.proofs.expressions.expression_at.Goals as goal

@@ -1,4 +1,4 @@
-use Rattle.std.proofs.Common.{arith, ◌<◌, length}
+use Rattle.std.proofs.Common.{arith}
 use Rattle.std.proofs.lemmas.Result.{err_from_is_err_and}
 use Rattle.pg_text.proofs.SeqSteps.{found_more, only_more, seq_ends, no_seq}
 use Rattle.pg_text.proofs.expressions.sequence_at.Goals as goal

@@ -1,4 +1,4 @@
-use Rattle.std.proofs.Common.{arith, length, ◌≤◌}
+use Rattle.std.proofs.Common.{arith}
 use Rattle.pg_text.proofs.TextLaws.{file_from_reading}
 use Rattle.pg_text.proofs.reading.read_file.Goals as goal
 

@@ -1,5 +1,5 @@
-use Rattle.std.proofs.Common.{arith, length, ◌≤◌, ◌+◌}
-use Rattle.pg_text.proofs.TextSteps.{at_first, line_done, all_done, bad_line}
+use Rattle.std.proofs.Common.{arith}
+use Rattle.pg_text.proofs.TextSteps.{at_first, line_done, bad_line}
 use Rattle.pg_text.proofs.reading.read_lines.Goals as goal
 
 pub lines-init : goal.lines-init

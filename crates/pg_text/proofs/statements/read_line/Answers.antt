@@ -1,5 +1,5 @@
 use Rattle.std.proofs.lemmas.Result.{err_from_is_err_and}
-use Rattle.pg_text.proofs.LineSteps.{blank_read, line_read, no_line}
+use Rattle.pg_text.proofs.LineSteps.{line_read, no_line}
 use Rattle.pg_text.proofs.statements.read_line.Goals as goal
 
 pub returns-in_err-statement-clause-err : goal.returns-in_err-statement-clause-err
