@@ -1,0 +1,6 @@
+pub mod WalkedLemmas
+pub mod ArcLemmas
+pub mod ConditionLemmas
+pub mod ListLemmas
+pub mod ReportLemmas
+pub mod AgreeLemmas

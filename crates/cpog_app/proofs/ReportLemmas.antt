@@ -1,0 +1,250 @@
+-- The report of a file is lawful, and is its synthesis.
+use Rattle.std.proofs.Common.{◌≡◌, ◌≢◌, ℕ, zero, suc, ◌+◌, ◌-◌, ◌<◌, ◌≤◌, ◌⊎◌, Bool, true, false, IsTrue, List, [], ◌∷◌, ◌++◌, length, map, take, IsSomeAnd, slice_index_or, slice_get, Some, if◌then◌else◌, refl, sym, ap, ◌∙◌, subst, arith, inl, inr, length-append}
+use Rattle.std.specs.List.{All, AllPairs, AllByRecursion, Contains}
+use Rattle.std.proofs.lemmas.Bool.{cases_lt, both_ways, or_cases, and_parts}
+use Rattle.std.proofs.lemmas.Option.{none-some}
+use Rattle.std.proofs.lemmas.List.{get_or_append_left, get_or-append_right, length-map}
+use Rattle.std.proofs.lemmas.List.Elements.{All-from_recursion}
+use Rattle.std.specs.FinSet as set
+use Rattle.cpog_defs.specs.declared.types.OpId.{OpId}
+use Rattle.cpog_defs.specs.Orders.{Order, has, is_before, is_covered, IsOrder, IsOrderOf, each_below, arc_of}
+use Rattle.cpog_defs.specs.Scenarios.{Scenario, IsScenario, HasArc, IsBefore, IsOrderOfScenario, IsLeastCyclic, AreOrdersOf}
+use Rattle.cpog_base.specs.Arcs.{has_arc}
+use Rattle.cpog_base.proofs.ArcLemmas.{has_from_contains}
+use Rattle.cpog_merge.specs.Table.{count_of}
+use Rattle.pg_algebra.specs.Graphs.{Graph}
+use Rattle.cpog_merge.proofs.ScenarioLemmas.{fits_is_fitting_scenarios_lem}
+use Rattle.cpog_defs.specs.Codes.{AreCodes}
+use Rattle.cpog_defs.specs.Encodings.{Encoding, IsEncoding, Fits}
+use Rattle.line_text.specs.Words.{is_free_name}
+use Rattle.pg_algebra.specs.Meaning.{graph_of}
+use Rattle.pg_text.specs.declared.statement.Statement.{Statement}
+use Rattle.pg_text.specs.declared.statement.Statement.TheVariants as statement
+use Rattle.pg_text.specs.declared.statement.Numbered.{Numbered}
+use Rattle.pg_text.specs.Contents.{Contents}
+use Rattle.pg_text.specs.Text.{IsFile, IsStatementOver}
+use Rattle.report_text.specs.declared.bound.Bound.TheVariants.{Minimum}
+use Rattle.report_text.specs.Report.{IsArcBefore, IsReport, IsReported}
+use Rattle.cpog_app.specs.Conditions.{IsOneBitEncoding}
+use Rattle.cpog_app.specs.Synthesis.{name_of, expr_of, scenarios_of, scenario_names_of, IsFirstCyclic, IsSynthesis}
+use Rattle.cpog_app.specs.Scenarios.{arcs_from, arcs_where, scenario_of, covering_scenario}
+use Rattle.cpog_app.proofs.ArcLemmas.{from_u, begin_below, has_one, has_append, walk_below}
+use Rattle.cpog_app.proofs.ListLemmas.{some_at, map_get}
+
+-- ---- arcs that are gathered by their ends ascend
+
+from_passes : (p : ℕ → ℕ → Bool) (n u a b : ℕ) → IsTrue (has_arc (arcs_from p n u) a b) → IsTrue (p a b)
+from_passes p zero u a b h = absurd (both_ways _ refl h)
+from_passes p (suc n) u a b h = elim (or_cases _ _ (rw (has_append (arcs_from p n u) (if p u n then arc_of u n ∷ [] else []) a b) at h)) [
+  | inl old ↦ from_passes p n u a b old
+  | inr new ↦ one (p u n) refl new
+]
+  where
+    one : (t : Bool) → p u n ≡ t → IsTrue (has_arc (if t then arc_of u n ∷ [] else []) a b) → IsTrue (p a b)
+    one false e k = absurd (both_ways _ refl k)
+    one true e k = let ends = has_one true u n a b k in rw (ends.0, ends.1) e
+
+-- what is gathered passes
+pub where_passes : (p : ℕ → ℕ → Bool) (n m a b : ℕ) → IsTrue (has_arc (each_below (arcs_from p n) m) a b) → IsTrue (p a b)
+where_passes p n zero a b h = absurd (both_ways _ refl h)
+where_passes p n (suc m) a b h = elim (or_cases _ _ (rw (has_append (each_below (arcs_from p n) m) (arcs_from p n m) a b) at h)) [
+  | inl old ↦ where_passes p n m a b old
+  | inr new ↦ from_passes p n m a b new
+]
+
+-- each element of one list is related to each element of another
+abbrev AllAcross : (OpId × OpId → OpId × OpId → Type 0) → List (OpId × OpId) → List (OpId × OpId) → Type 0
+AllAcross R xs ys = (i j : ℕ) (d : OpId × OpId) → i < length xs → j < length ys → R (slice_index_or xs i d) (slice_index_or ys j d)
+
+pairs_append : (R : OpId × OpId → OpId × OpId → Type 0) (xs ys : List (OpId × OpId)) → AllPairs R xs → AllPairs R ys → AllAcross R xs ys → AllPairs R (xs ++ ys)
+pairs_append R xs ys first second across i j d l m =
+    let size : length (xs ++ ys) ≡ length xs + length ys = length-append xs ys in
+    elim (cases_lt j (length xs)) [
+      | inl j_first ↦ rw (get_or_append_left xs ys d i (omega arith), get_or_append_left xs ys d j j_first) (first i j d l j_first)
+      | inr j_second ↦ elim (cases_lt i (length xs)) [
+        | inl i_first ↦ rw (get_or_append_left xs ys d i i_first, get_or-append_right xs ys (length xs) j d refl j_second) (across i (j - length xs) d i_first (omega (arith, size)))
+        | inr i_second ↦ rw (get_or-append_right xs ys (length xs) i d refl i_second, get_or-append_right xs ys (length xs) j d refl j_second) (second (i - length xs) (j - length xs) d (omega arith) (omega (arith, size)))
+      ]
+    ]
+
+-- an element is one that is found
+found_at : (xs : List (OpId × OpId)) (k : ℕ) (d : OpId × OpId) → k < length xs → IsTrue (has_arc xs (slice_index_or xs k d).0.0 (slice_index_or xs k d).1.0)
+found_at xs k d l = has_from_contains xs _ _ (k, l, same_default xs k l)
+  where
+    same_default : (xs : List (OpId × OpId)) (k : ℕ) → k < length xs → slice_index_or xs k (slice_index_or xs k d) ≡ slice_index_or xs k d
+    same_default [] k l = absurd (omega arith)
+    same_default (x ∷ xs) zero l = refl
+    same_default (x ∷ xs) (suc k) l = same_default xs k (omega arith)
+
+one_or_none : (t : Bool) (u v : ℕ) → AllPairs IsArcBefore (if t then arc_of u v ∷ [] else [])
+one_or_none true u v i j d l m = absurd (omega arith)
+one_or_none false u v i j d l m = absurd (omega arith)
+
+from_ascend : (p : ℕ → ℕ → Bool) (n u : ℕ) → AllPairs IsArcBefore (arcs_from p n u)
+from_ascend p zero u = λ i j d l m. absurd (omega arith)
+from_ascend p (suc n) u = pairs_append IsArcBefore (arcs_from p n u) (if p u n then arc_of u n ∷ [] else []) (from_ascend p n u) (one_or_none (p u n) u n)
+    (λ i j d l m.
+    let a = from_u p n u _ _ (found_at (arcs_from p n u) i d l) in
+    let b = has_one (p u n) u n _ _ (found_at (if p u n then arc_of u n ∷ [] else []) j d m) in
+    inr (a.0 ∙ sym b.0, omega (arith, a.1, b.1)))
+
+pub where_ascend : (p : ℕ → ℕ → Bool) (n m : ℕ) → AllPairs IsArcBefore (each_below (arcs_from p n) m)
+where_ascend p n zero = λ i j d l m. absurd (omega arith)
+where_ascend p n (suc k) = pairs_append IsArcBefore (each_below (arcs_from p n) k) (arcs_from p n k) (where_ascend p n k) (from_ascend p n k)
+    (λ i j d l m.
+    let a = begin_below p n k _ _ (found_at (each_below (arcs_from p n) k) i d l) in
+    let b = from_u p n k _ _ (found_at (arcs_from p n k) j d m) in
+    inl (omega (arith, a, b.0)))
+
+-- an arc isn't before itself
+differ : (a b : OpId × OpId) → IsArcBefore a b → a ≢ b
+differ a b (inl l) e = let same : a.0.0 ≡ b.0.0 = ap (λ (x : OpId × OpId). x.0.0) e in absurd (omega arith)
+differ a b (inr l) e = let same : a.1.0 ≡ b.1.0 = ap (λ (x : OpId × OpId). x.1.0) e in absurd (omega (arith, l.1))
+
+-- ---- printed scenarios
+
+-- a scenario with its covering pairs may be printed
+pub reported : (n : ℕ) (o : Order) → IsOrderOf n o → IsReported n (covering_scenario o)
+reported n o is =
+    let before : (u v : ℕ) → HasArc (covering_scenario o) u v → IsTrue (is_before o u v) =
+    λ u v h. (and_parts _ _ (where_passes (is_covered o) o.count o.count u v (has_from_contains (arcs_where (is_covered o) o.count) u v h))).0 in
+    record {
+      count_is = is.count_is;
+      scenario = record {
+        below = is.order.below;
+        first_kept = λ u v h. is.order.first_kept u v (before u v h);
+        second_kept = λ u v h. is.order.second_kept u v (before u v h);
+        distinct = λ i j d l m. differ _ _ (where_ascend (is_covered o) o.count o.count i j d l m);
+      };
+      ascending = where_ascend (is_covered o) o.count o.count;
+    }
+
+-- ---- orders of scenarios
+
+pub orders_push : (xs : List Scenario) (os : List Order) (x : Scenario) (o : Order) → AreOrdersOf xs os → IsOrderOfScenario x o → AreOrdersOf (xs ++ x ∷ []) (os ++ o ∷ [])
+orders_push [] [] x o z is = (is, tt)
+orders_push [] (p ∷ os) x o z is = absurd z
+orders_push (y ∷ xs) [] x o z is = absurd z
+orders_push (y ∷ xs) (p ∷ os) x o z is = (z.0, orders_push xs os x o z.1 is)
+
+-- where all have orders, none has an operation before itself
+pub none_cyclic : (xs : List Scenario) (os : List Order) → AreOrdersOf xs os → (t w : ℕ) (sc : Scenario) → slice_get xs t ≡ Some sc → IsBefore sc w w → ⊥
+none_cyclic [] os z t w sc at h = none-some sc at
+none_cyclic (x ∷ xs) [] z t w sc at h = z
+none_cyclic (x ∷ xs) (o ∷ os) z zero w sc at h = let same : x ≡ sc = cc in z.0.order.strict.irreflexive w ((z.0.before w w).1 (subst (λ y. IsBefore y w w) (sym same) h))
+none_cyclic (x ∷ xs) (o ∷ os) z (suc t) w sc at h = none_cyclic xs os z.1 t w sc at h
+
+pub length-orders : (xs : List Scenario) (os : List Order) → AreOrdersOf xs os → length os ≡ length xs
+length-orders [] [] z = refl
+length-orders [] (o ∷ os) z = absurd z
+length-orders (x ∷ xs) [] z = absurd z
+length-orders (x ∷ xs) (o ∷ os) z = ap suc (length-orders xs os z.1)
+
+-- the orders of a file's scenarios are of one count
+pub alike : {S : Type 0} (n : ℕ) (g : S → Graph) (ss : List S) (os : List Order) → AreOrdersOf (map (λ s. scenario_of n (g s)) ss) os → All (IsOrderOf n) os
+alike n g [] [] z k d l = absurd (omega arith)
+alike n g [] (o ∷ os) z k d l = absurd z
+alike n g (s ∷ ss) [] z k d l = absurd z
+alike n g (s ∷ ss) (o ∷ os) z zero d l = record { count_is = z.0.count; order = z.0.order }
+alike n g (s ∷ ss) (o ∷ os) z (suc k) d l = alike n g ss os z.1 k d (omega arith)
+
+pub count_is : (n : ℕ) (os : List Order) → 0 < length os → All (IsOrderOf n) os → count_of os ≡ n
+count_is n [] l all = absurd (omega arith)
+count_is n (o ∷ os) l all = (all 0 o (omega arith)).count_is
+
+-- ---- all elements of a list
+
+pub all_map : {X Y : Type 0} (P : X → Type 0) (Q : Y → Type 0) (f : X → Y) → ((x : X) → P x → Q (f x)) → (xs : List X) → All P xs → All Q (map f xs)
+all_map P Q f step [] h k d l = absurd (omega arith)
+all_map P Q f step (x ∷ xs) h zero d l = step x (h 0 x (omega arith))
+all_map P Q f step (x ∷ xs) h (suc k) d l = all_map P Q f step xs (λ i e m. h (suc i) e (omega arith)) k d (omega arith)
+
+-- ---- the report of a file
+
+module _ (f : Contents) (orders : List Order) (z : AreOrdersOf (scenarios_of f) orders) (some : 0 < length f.statements) where
+  -- a scenario has its order
+  pub orders_each : length orders ≡ length f.statements
+  orders_each = length-orders (scenarios_of f) orders z ∙ length-map f.statements _
+
+  pub orders_are : All (IsOrderOf (length f.operations)) orders
+  orders_are = alike (length f.operations) (λ s. graph_of (expr_of s.statement)) f.statements orders z
+
+  pub same_count : count_of orders ≡ length f.operations
+  same_count = count_is (length f.operations) orders (omega (arith, orders_each)) orders_are
+
+  pub orders_alike : All (IsOrderOf (count_of orders)) orders
+  orders_alike = subst (λ n. All (IsOrderOf n) orders) (sym same_count) orders_are
+
+  -- the report of a lawful file is lawful
+  pub report_is_lawful : IsFile f → (e : Encoding) → IsOneBitEncoding (count_of orders) orders e → AreCodes 1 (length orders) e.codes →
+      IsReport (record { bits = 1; budget = 2000000; names = f.operations; scenario_names = scenario_names_of f; scenarios = map covering_scenario orders; encoding = e; bound = Minimum 0 })
+  report_is_lawful file e is codes =
+      let covering : length (map covering_scenario orders) ≡ length f.statements = length-map orders covering_scenario ∙ orders_each in
+      let names : length (scenario_names_of f) ≡ length f.statements = length-map f.statements _ in
+      let no_gate : length e.gates.gates ≡ 0 = ap length is.no_gate in
+      record {
+        some_bit = omega arith;
+        few_bits = omega arith;
+        some_budget = omega arith;
+        few_budget = omega arith;
+        few_names = file.few_operations;
+        names = All-from_recursion (λ name. IsTrue (is_free_name name)) f.operations file.names;
+        distinct = file.distinct;
+        some_scenario = omega (arith, covering);
+        few_scenarios = omega (arith, covering, file.few_scenarios);
+        one_name_each = names ∙ sym covering;
+        scenario_names = all_map (λ (s : Numbered). IsStatementOver (length f.operations) s.statement) (λ name. IsTrue (is_free_name name)) (λ s. name_of s.statement) (λ s. named s.statement) f.statements (All-from_recursion (λ (s : Numbered). IsStatementOver (length f.operations) s.statement) f.statements file.statements);
+        scenarios = all_map (IsOrderOf (length f.operations)) (IsReported (length f.operations)) covering_scenario (reported (length f.operations)) orders orders_are;
+        inputs = is.inputs;
+        one_code_each = codes.one_each ∙ sym (length-map orders covering_scenario);
+        few_gates = omega (arith, no_gate);
+        encoding = subst (λ n. IsEncoding n e) same_count is.encoding;
+        bound = omega arith;
+      }
+    where
+      named : (s : Statement) → IsStatementOver (length f.operations) s → IsTrue (is_free_name (name_of s))
+      named (statement.Scenario name x) h = h.0
+
+  -- and is its synthesis
+  pub report_is_synthesis : IsFile f → length f.statements ≤ 2 → (e : Encoding) → IsOneBitEncoding (count_of orders) orders e → AreCodes 1 (length orders) e.codes → Fits e orders →
+      IsSynthesis f (record { bits = 1; budget = 2000000; names = f.operations; scenario_names = scenario_names_of f; scenarios = map covering_scenario orders; encoding = e; bound = Minimum 0 })
+  report_is_synthesis file few e is codes fits = record {
+    report = report_is_lawful file e is codes;
+    bits = refl;
+    budget = refl;
+    names = refl;
+    scenario_names = refl;
+    enough_bits = few;
+    orders = orders;
+    of_scenarios = z;
+    scenarios = refl;
+    codes = subst (λ n. AreCodes 1 n e.codes) orders_each codes;
+    fits = (fits_is_fitting_scenarios_lem e (scenarios_of f) orders z).0 fits;
+    conditions = subst (λ n. IsOneBitEncoding n orders e) same_count is;
+    bound = (sym (ap length is.no_gate), λ cost l h. absurd (omega arith));
+  }
+
+-- where those before it have orders, a scenario with an operation before itself is the first
+pub first_cyclic : (xs : List Scenario) (os : List Order) (s v : ℕ) (x : Scenario) → s < length xs → x ≡ slice_index_or xs s x → AreOrdersOf (take s xs) os → IsLeastCyclic x v → IsFirstCyclic xs s v
+first_cyclic xs os s v x l is z least = record {
+  here = subst (λ o. IsSomeAnd o (λ sc. IsLeastCyclic sc v)) (sym (slice_get_at xs s x l is)) least;
+  earlier = λ t w sc before at h. none_cyclic (take s xs) os z t w sc (get_before xs s t sc before at) h;
+}
+  where
+    slice_get_at : (ys : List Scenario) (k : ℕ) (y : Scenario) → k < length ys → y ≡ slice_index_or ys k y → slice_get ys k ≡ Some y
+    slice_get_at [] k y l e = absurd (omega arith)
+    slice_get_at (z ∷ ys) zero y l e = ap Some (sym e)
+    slice_get_at (z ∷ ys) (suc k) y l e = slice_get_at ys k y (omega arith) e
+
+    get_before : (ys : List Scenario) (n k : ℕ) (y : Scenario) → k < n → slice_get ys k ≡ Some y → slice_get (take n ys) k ≡ Some y
+    get_before [] n k y l e = absurd (none-some y e)
+    get_before (z ∷ ys) zero k y l e = absurd (omega arith)
+    get_before (z ∷ ys) (suc n) zero y l e = e
+    get_before (z ∷ ys) (suc n) (suc k) y l e = get_before ys n k y (omega arith) e
+
+-- the operation that is before itself has a name
+pub cyclic_below : (f : Contents) (s v : ℕ) → IsFirstCyclic (scenarios_of f) s v → v < length f.operations
+cyclic_below f s v first =
+    let at = some_at (λ sc. IsLeastCyclic sc v) (slice_get (scenarios_of f) s) first.here in
+    let from = map_get (λ (x : Numbered). scenario_of (length f.operations) (graph_of (expr_of x.statement))) f.statements s at.0 at.1 in
+    walk_below (length f.operations) (graph_of (expr_of from.0.statement)) v v (subst (λ sc. IsBefore sc v v) from.1 at.2.is_cyclic)

@@ -1,0 +1,5 @@
+use Rattle.cpog_app.proofs.AgreeLemmas as laws
+use Rattle.cpog_app.proofs.laws.one_first_cyclic.Goals as goal
+
+pub returns : goal.returns
+returns c = laws.first_least

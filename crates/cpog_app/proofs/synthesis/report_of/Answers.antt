@@ -1,0 +1,25 @@
+use Rattle.std.proofs.Common.{◌≡◌, ℕ, length, subst, sym, ap, arith}
+use Rattle.pg_text.specs.Text.{IsFile}
+use Rattle.report_text.specs.Report.{IsReport}
+use Rattle.cpog_app.specs.Synthesis.{IsSynthesis}
+use Rattle.cpog_app.proofs.ReportLemmas.{orders_each, orders_alike, report_is_lawful, report_is_synthesis}
+use Rattle.cpog_app.proofs.synthesis.report_of.Goals as goal
+
+pub one_bit_encoding-requires-clause-some : goal.one_bit_encoding-requires-clause-some
+one_bit_encoding-requires-clause-some c = omega (arith, orders_each c.args.file c.args.orders.now c.requires.orders c.requires.some, c.requires.some)
+
+pub one_bit_encoding-requires-clause-few : goal.one_bit_encoding-requires-clause-few
+one_bit_encoding-requires-clause-few c = omega (arith, orders_each c.args.file c.args.orders.now c.requires.orders c.requires.some, c.requires.few)
+
+pub one_bit_encoding-requires-clause-alike : goal.one_bit_encoding-requires-clause-alike
+one_bit_encoding-requires-clause-alike c = orders_alike c.args.file c.args.orders.now c.requires.orders c.requires.some
+
+pub new-requires : goal.new-requires
+new-requires c =
+    let file : IsFile c.args.file = subst IsFile c.file.view_is c.file.invariant in
+    rw (c.in_ok-names.ensures, c.in_ok-scenarios.ensures, c.into_operations-operations.ensures) (report_is_lawful c.args.file c.args.orders.now c.requires.orders c.requires.some file c.in_ok-encoding.encoding c.in_ok-encoding.ensures.encoding c.in_ok-encoding.ensures.codes)
+
+pub returns : goal.returns
+returns c =
+    let file : IsFile c.args.file = subst IsFile c.file.view_is c.file.invariant in
+    rw (c.new.ensures, c.in_ok-names.ensures, c.in_ok-scenarios.ensures, c.into_operations-operations.ensures) (report_is_synthesis c.args.file c.args.orders.now c.requires.orders c.requires.some file c.requires.few c.in_ok-encoding.encoding c.in_ok-encoding.ensures.encoding c.in_ok-encoding.ensures.codes c.in_ok-encoding.ensures.fits)

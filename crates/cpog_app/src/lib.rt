@@ -1,0 +1,19 @@
+//! The program over any source and sink. Every crate of `cpog` stands below it: the words name a command, the input is
+//! read whole, the answer (a status and an output) is made of it, and the output is written once. `run_cpog` promises
+//! that what is printed is what the words and the bytes read allow, for every source and sink.
+#![tactic(auto)]
+
+mod answer;
+mod conditions;
+mod fault;
+mod laws;
+mod refusal;
+mod run;
+mod scenarios;
+mod synthesis;
+mod words;
+
+pub use laws::{allowed_answers_agree, one_first_cyclic};
+pub use refusal::{Refusal, refusal_line};
+pub use run::run_cpog;
+pub use words::{Command, read_words};

@@ -1,0 +1,40 @@
+//! The one call that the program makes.
+ghost use Rattle.std.specs.Prelude.{◌≡◌, map};
+ghost use Rattle.std.specs.String.{string_bytes};
+ghost use Rattle.cpog_outside.specs.Causes.{Rose};
+ghost use Rattle.cpog_outside.specs.Told.{LosesFront};
+ghost use Rattle.cpog_app.specs.Allowed.{Ends};
+
+use crate::answer::make_answer;
+use cpog_base::Status;
+use cpog_outside::{Sink, Source, write_all};
+use std::alloc::Global;
+
+/// Runs the command that the words name, which are the arguments without the program's name. It reads the source where
+/// the command does, and builds its whole output before the first write.
+pub fn run_cpog<S: Source, K: Sink>(
+    alloc: Global,
+    words: &[String],
+    source: &mut S,
+    sink: &mut K,
+) -> Status
+    // What was printed is what the words and the input allow at this status: whole, or a front of it where the sink failed.
+    ensures ends { Ends (map string_bytes words.now)
+        (record { left = S.left source.old; left_after = S.left source.new; faults = S.faults source.old; faults_after = S.faults source.new })
+        (K.taken sink.old) (K.taken sink.new) result }
+
+    // A fault comes only where the outside failed in this call.
+    ensures read_fault { result ≡ Status.ReadFault → Rose (S.faults source.old) (S.faults source.new) }
+    ensures write_fault { result ≡ Status.WriteFault → Rose (K.faults sink.old) (K.faults sink.new) }
+
+    // What is left of the input ended it before.
+    ensures left { LosesFront (S.left source.old) (S.left source.new) }
+{
+    match make_answer(alloc, words, source) {
+        Ok(answer) => match write_all(sink, answer.output.as_slice()) {
+            Ok(()) => answer.status,
+            Err(_) => Status::WriteFault,
+        },
+        Err(_) => Status::Memory,
+    }
+}
