@@ -1,0 +1,19 @@
+//! Whole runs of the program over a source and a sink in memory, as tests: a table for each subject, with what is
+//! printed for each input. They show that runs succeed where memory is there, and that the printed texts are the ones
+//! that the format promises. Every crate stands below; nothing is built on this one.
+#![tactic(auto)]
+
+#[cfg(test)]
+mod arcs;
+#[cfg(test)]
+mod bad_lines;
+#[cfg(test)]
+mod failing;
+#[cfg(test)]
+mod limits;
+#[cfg(test)]
+mod one_bit;
+#[cfg(test)]
+mod running;
+#[cfg(test)]
+mod words;

@@ -1,0 +1,83 @@
+//! What there may be too much or too little of.
+
+use crate::running::run;
+use cpog_base::Status;
+use std::alloc::Global;
+use std::fmt::Write;
+use std::test::Fail;
+
+/// A scenario of so many operations side by side.
+fn wide_scenario(alloc: Global, operations: u32) -> Result<String, Fail> {
+    let mut text = String::from_str(alloc, "scenario A = v")?;
+    for v in 0..operations {
+        write!(text, " + v{v}")?;
+    }
+    Ok(text)
+}
+
+/// So many scenarios of one operation.
+fn many_scenarios(alloc: Global, scenarios: u32) -> Result<String, Fail> {
+    let mut text = String::new(alloc);
+    for s in 0..scenarios {
+        write!(text, "scenario s{s} = a\n")?;
+    }
+    Ok(text)
+}
+
+#[test]
+fn counts_and_their_limits(rt: HostRuntime) -> Result<(), Fail> {
+    let alloc = rt.alloc();
+    let table: [(String, Status, &[u8]); 5] = [
+        (
+            wide_scenario(alloc, 64)?,
+            Status::Limit,
+            b"cpog: limit: operations 64\n",
+        ),
+        (
+            many_scenarios(alloc, 65)?,
+            Status::Limit,
+            b"cpog: limit: scenarios 64\n",
+        ),
+        (
+            many_scenarios(alloc, 64)?,
+            Status::Limit,
+            b"cpog: limit: bits 1\n",
+        ),
+        (
+            many_scenarios(alloc, 3)?,
+            Status::Limit,
+            b"cpog: limit: bits 1\n",
+        ),
+        (
+            String::from_str(alloc, "# nothing\n\n  # here\n")?,
+            Status::Names,
+            b"cpog: names: no scenario\n",
+        ),
+    ];
+    for (input, status, want) in table {
+        let ending = run(alloc, &["synth"], input.as_bytes())?;
+        assert_eq!(rt; ending.status, status);
+        assert_eq!(rt; ending.taken.as_slice(), want);
+    }
+    Ok(())
+}
+
+#[test]
+fn sixty_four_operations_are_taken(rt: HostRuntime) -> Result<(), Fail> {
+    let alloc = rt.alloc();
+    let input = wide_scenario(alloc, 63)?;
+    let ending = run(alloc, &["synth"], input.as_bytes())?;
+    assert_eq!(rt; ending.status, Status::Ok);
+    Ok(())
+}
+
+#[test]
+fn a_text_too_long_is_told(rt: HostRuntime) -> Result<(), Fail> {
+    let alloc = rt.alloc();
+    for (length, status) in [(1048576usize, Status::Names), (1048577usize, Status::Limit)] {
+        let input = Vec::from_elem(alloc, b' ', length)?;
+        let ending = run(alloc, &["synth"], input.as_slice())?;
+        assert_eq!(rt; ending.status, status);
+    }
+    Ok(())
+}

@@ -1,0 +1,26 @@
+//! Words that name no command.
+
+use crate::running::run;
+use cpog_base::Status;
+use std::test::Fail;
+
+const USAGE: &[u8] =
+    b"cpog: usage: synth [--bits D] [--budget D] [--exact] | normal | cnf G [--bits D] | solve [--budget D] | lrat | check | verilog | sim | bulk N\n";
+
+#[test]
+fn other_words_print_the_usage_line(rt: HostRuntime) -> Result<(), Fail> {
+    let table: [&[&str]; 6] = [
+        &[],
+        &["help"],
+        &["Synth"],
+        &["synth", "x"],
+        &["synth", "--bits", "9"],
+        &["synth", ""],
+    ];
+    for words in table {
+        let ending = run(rt.alloc(), words, b"scenario A = a\n")?;
+        assert_eq!(rt; ending.status, Status::Usage);
+        assert_eq!(rt; ending.taken.as_slice(), USAGE);
+    }
+    Ok(())
+}
