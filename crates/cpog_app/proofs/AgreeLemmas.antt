@@ -38,6 +38,7 @@ use Rattle.cpog_app.specs.Conditions.{IsOneBitEncoding}
 use Rattle.cpog_app.specs.Synthesis.{scenarios_of, scenario_names_of, IsFirstCyclic, IsBoundOf, IsSynthesis}
 use Rattle.cpog_app.specs.Allowed.{IsReportAnswer, IsCyclicAnswer, IsManyAnswer, IsEmptyAnswer, IsFileAnswer, IsBadLineAnswer, IsPassedAnswer, IsAnswerOfFile, IsTextAnswer, Input, IsAnswerToAll, IsLongAnswer, IsSynthAnswer, IsCommandAnswer}
 use Rattle.cpog_app.specs.Laws.{AllowedAgree, FirstLeast}
+use Rattle.cpog_app.proofs.ReportLemmas.{none_cyclic}
 
 -- ---- one order for a scenario
 
@@ -159,13 +160,6 @@ first_least xs s t v w h k =
             (same, one_least a.0 b.0 v w (same_Some a.0 b.0 (sym a.1 ∙ ap (slice_get xs) same ∙ b.1)) a.2 b.2)
       ]
     ]
-
--- where all have orders, none has an operation before itself
-none_cyclic : (xs : List Scenario) (os : List Order) → AreOrdersOf xs os → (s w : ℕ) (sc : Scenario) → slice_get xs s ≡ Some sc → IsBefore sc w w → ⊥
-none_cyclic [] os z s w sc at h = none-some sc at
-none_cyclic (x ∷ xs) [] z s w sc at h = z
-none_cyclic (x ∷ xs) (o ∷ os) z zero w sc at h = z.0.order.strict.irreflexive w ((z.0.before w w).1 (subst (λ y. IsBefore y w w) (sym (same_Some x sc at)) h))
-none_cyclic (x ∷ xs) (o ∷ os) z (suc s) w sc at h = none_cyclic xs os z.1 s w sc at h
 
 -- scenarios with a first cyclic one don't all have orders
 cyclic_or_orders : (xs : List Scenario) (os : List Order) (s v : ℕ) → IsFirstCyclic xs s v → AreOrdersOf xs os → ⊥

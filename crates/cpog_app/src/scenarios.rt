@@ -20,7 +20,7 @@ pub(crate) fn scenario(alloc: Global, expr: &Expr, count: u8) -> Result<Scenario
     requires below { HasOpsBelow count expr.now }
     ensures { IfOk result (λ sc. sc ≡ scenario_of count (graph_of expr.now)) }
 {
-    let mut rows = empty_rows(alloc, count)?;
+    let mut rows = OpSet::empty_sets(alloc, count)?;
     scenario_over(alloc, expr, &mut rows)
 }
 
@@ -62,17 +62,6 @@ fn scenario_of_rows(alloc: Global, ops: &OpSet, rows: &[OpSet]) -> Result<Scenar
         add_arcs_from(&mut scenario, OpId(u), rows)?;
     }
     Ok(scenario)
-}
-
-/// So many empty sets.
-fn empty_rows(alloc: Global, count: u8) -> Result<Vec<OpSet>, Memory>
-    ensures { IfOk result (λ rows. rows.items ≡ replicate count set.empty) }
-{
-    let mut rows = Vec::new(alloc);
-    for _ in 0..count {
-        rows.push(OpSet::empty())?;
-    }
-    Ok(rows)
 }
 
 /// Walks over an expression that stands behind the operations `before`. Each row gets those that an arc leads from, and

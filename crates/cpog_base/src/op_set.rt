@@ -1,7 +1,9 @@
-ghost use Rattle.std.specs.Prelude.{◌≡◌, ◌<◌};
+ghost use Rattle.std.specs.Prelude.{◌≡◌, ◌<◌, IfOk, replicate};
 ghost use Rattle.std.specs.FinSet as set;
 
+use crate::Memory;
 use cpog_defs::types::OpId;
+use std::alloc::Global;
 use std::marker::Model;
 
 /// A set of operations, whose numbers are below 128.
@@ -36,6 +38,17 @@ impl OpSet {
         ensures { result ≡ set.empty }
     {
         OpSet { bits: 0 }
+    }
+
+    /// So many sets with no member.
+    pub fn empty_sets(alloc: Global, count: u8) -> Result<Vec<OpSet>, Memory>
+        ensures { IfOk result (λ sets. sets.items ≡ replicate count set.empty) }
+    {
+        let mut sets = Vec::new(alloc);
+        for _ in 0..count {
+            sets.push(OpSet::empty())?;
+        }
+        Ok(sets)
     }
 
     /// Whether the operation is a member. No number from 128 on is one.

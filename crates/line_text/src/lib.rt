@@ -11,4 +11,4 @@ mod words;
 
 pub use laws::{lines_are_read, numbers_are_told};
 pub use lines::{first_place, next_line};
-pub use words::{is_free_name, is_keyword, is_name};
+pub use words::{continues_name, is_free_name, is_keyword, is_name};

@@ -8,7 +8,8 @@ fn begins_name(b: u8) -> bool
     matches!(b, b'a'..=b'z' | b'A'..=b'Z' | b'_')
 }
 
-fn continues_name(b: u8) -> bool
+/// Whether a byte may follow the first one of a name.
+pub fn continues_name(b: u8) -> bool
     ensures { result ≡ words.continues_name b }
 {
     begins_name(b) || b.is_ascii_digit()

@@ -7,19 +7,13 @@ ghost use Rattle.pg_text.specs.Tokens.{name, scenario, sign as sign_token, sign_
 ghost use Rattle.line_text.specs.Words.{continues_name};
 
 use crate::sign::Sign;
-use line_text::is_free_name;
+use line_text::{continues_name, is_free_name};
 use std::str;
 
 fn is_blank_byte(b: u8) -> bool
     ensures { result ≡ is_blank b }
 {
     b == b' ' || b == b'\t'
-}
-
-fn continues_word(b: u8) -> bool
-    ensures { result ≡ continues_name b }
-{
-    b.is_ascii_alphanumeric() || b == b'_'
 }
 
 fn count_blanks(bytes: &[u8]) -> usize
@@ -40,7 +34,7 @@ fn count_word(bytes: &[u8]) -> usize
     ensures run { result ≡ prefix_len continues_name bytes.now }
     ensures bound { result ≤ length bytes.now }
 {
-    bytes.iter().take_while(|b| continues_word(**b)).count()
+    bytes.iter().take_while(|b| continues_name(**b)).count()
 }
 
 /// The word at the front, which may be empty, and what follows it.

@@ -11,7 +11,7 @@ ghost use Rattle.scenario_check.specs.Faults.{IsCycleFault};
 ghost use Rattle.scenario_check.specs.declared.walks.CycleFault.TheVariants.{Memory};
 
 use cpog_base::{OpId, OpSet, Order, Scenario};
-use std::alloc::{AllocError, AllocFailed, Global};
+use std::alloc::Global;
 
 /// Why a scenario has no order.
 #[derive(Clone, Copy, Debug, PartialEq, Eq)]
@@ -22,31 +22,12 @@ pub enum CycleFault {
     Memory,
 }
 
-impl From<AllocError> for CycleFault {
+impl From<cpog_base::Memory> for CycleFault {
     ghost from_gives = { λ _ e. e ≡ Memory };
 
-    fn from(_error: AllocError) -> CycleFault {
+    fn from(_error: cpog_base::Memory) -> CycleFault {
         CycleFault::Memory
     }
-}
-
-impl<T: Drop> From<AllocFailed<T>> for CycleFault {
-    ghost from_gives = { λ _ e. e ≡ Memory };
-
-    fn from(_error: AllocFailed<T>) -> CycleFault {
-        CycleFault::Memory
-    }
-}
-
-fn empty_rows(alloc: Global, count: u8) -> Result<Vec<OpSet>, CycleFault>
-    ensures rows { IfOk result (λ rows. rows.items ≡ replicate count set.empty) }
-    ensures err { IfErr result (λ e. e ≡ CycleFault.Memory) }
-{
-    let mut rows = Vec::new(alloc);
-    for _ in 0..count {
-        rows.push(OpSet::empty())?;
-    }
-    Ok(rows)
 }
 
 /// Puts u before v.
@@ -127,7 +108,7 @@ pub fn closure(alloc: Global, scenario: &Scenario) -> Result<Order, CycleFault>
     ensures order { IfOk result (IsOrderOfScenario scenario.now) }
     ensures err { IfErr result (IsCycleFault scenario.now) }
 {
-    let mut rows = empty_rows(alloc, scenario.count())?;
+    let mut rows = OpSet::empty_sets(alloc, scenario.count())?;
     match fill(&mut rows, scenario.arcs()) {
         Some(v) => Err(CycleFault::Cyclic(v)),
         None => Ok(Order::from_sets(scenario.ops(), rows)),

@@ -7,13 +7,13 @@ use Rattle.scenario_check.proofs.walks.closure.Goals as goal
 pub fill-requires-clause-ends : goal.fill-requires-clause-ends
 fill-requires-clause-ends c =
     ends-from c.args.scenario.now c.count.ensures.scenario c.arcs.result.now c.arcs.ensures _
-    (ap length (c.deref_mut.ensures.value ∙ c.in_ok-rows.ensures.rows) ∙ length-replicate _ _ ∙ c.count.ensures.count)
+    (ap length (c.deref_mut.ensures.value ∙ c.in_ok-rows.ensures) ∙ length-replicate _ _ ∙ c.count.ensures.count)
 
 pub from_sets-requires-clause-order : goal.from_sets-requires-clause-order
 from_sets-requires-clause-order c =
     let r : AreRowsOf c.args.scenario.now.arcs c.fill.new.rows = rw c.arcs.ensures at c.fill.ensures.rows in
     let size : length c.fill.new.rows ≡ c.args.scenario.now.count =
-    c.fill.auto.rows ∙ ap length (c.deref_mut.ensures.value ∙ c.in_ok-rows.ensures.rows) ∙ length-replicate _ _ ∙ c.count.ensures.count in
+    c.fill.auto.rows ∙ ap length (c.deref_mut.ensures.value ∙ c.in_ok-rows.ensures) ∙ length-replicate _ _ ∙ c.count.ensures.count in
     let same = written c.in_ok-rows.rows.len c.in_ok-rows.rows.items c.fill.new.rows (c.fill.auto.rows ∙ c.deref_mut.ensures.len) in
     rw (same, c.ops.ensures) (order_from c.args.scenario.now c.fill.new.rows c.count.ensures.scenario size r c.in-None.ensures.least)
 
@@ -28,7 +28,7 @@ pub returns-in-None-clause-order : goal.returns-in-None-clause-order
 returns-in-None-clause-order c =
     let r : AreRowsOf c.args.scenario.now.arcs c.fill.new.rows = rw c.arcs.ensures at c.fill.ensures.rows in
     let size : length c.fill.new.rows ≡ c.args.scenario.now.count =
-    c.fill.auto.rows ∙ ap length (c.deref_mut.ensures.value ∙ c.in_ok-rows.ensures.rows) ∙ length-replicate _ _ ∙ c.count.ensures.count in
+    c.fill.auto.rows ∙ ap length (c.deref_mut.ensures.value ∙ c.in_ok-rows.ensures) ∙ length-replicate _ _ ∙ c.count.ensures.count in
     let same = written c.in_ok-rows.rows.len c.in_ok-rows.rows.items c.fill.new.rows (c.fill.auto.rows ∙ c.deref_mut.ensures.len) in
     rw (c.from_sets.ensures, same, c.ops.ensures) (record {
       order = order_from c.args.scenario.now c.fill.new.rows c.count.ensures.scenario size r c.in-None.ensures.least;
