@@ -1,0 +1,5 @@
+pub mod Netlists
+pub mod StoredNetlist
+pub mod Machines
+pub mod Agreement
+pub mod Laws
