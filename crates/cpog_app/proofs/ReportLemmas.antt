@@ -2,8 +2,8 @@
 use Rattle.std.proofs.Common.{◌≡◌, ◌≢◌, ℕ, zero, suc, ◌+◌, ◌-◌, ◌<◌, ◌≤◌, ◌⊎◌, Bool, true, false, IsTrue, List, [], ◌∷◌, ◌++◌, length, map, take, IsSomeAnd, slice_index_or, slice_get, Some, if◌then◌else◌, refl, sym, ap, ◌∙◌, subst, arith, inl, inr, length-append}
 use Rattle.std.specs.List.{All, AllPairs, AllByRecursion, Contains}
 use Rattle.std.proofs.lemmas.Bool.{cases_lt, both_ways, or_cases, and_parts}
-use Rattle.std.proofs.lemmas.Option.{none-some}
-use Rattle.std.proofs.lemmas.List.{get_or_append_left, get_or-append_right, length-map}
+use Rattle.std.proofs.lemmas.Option.{none-some, same_Some}
+use Rattle.std.proofs.lemmas.List.{get_or_append_left, get_or-append_right, length-map, length-replicate}
 use Rattle.std.proofs.lemmas.List.Elements.{All-from_recursion}
 use Rattle.std.specs.FinSet as set
 use Rattle.cpog_defs.specs.declared.types.OpId.{OpId}
@@ -14,7 +14,9 @@ use Rattle.cpog_base.proofs.ArcLemmas.{has_from_contains}
 use Rattle.cpog_merge.specs.Table.{count_of}
 use Rattle.pg_algebra.specs.Graphs.{Graph}
 use Rattle.cpog_merge.proofs.ScenarioLemmas.{fits_is_fitting_scenarios_lem}
-use Rattle.cpog_defs.specs.Codes.{AreCodes}
+use Rattle.cpog_defs.specs.declared.types.Bit3.{Bit3}
+use Rattle.cpog_defs.specs.Codes.{bit, AreCodes, KeepGivenBits, open_patterns}
+use Rattle.cpog_defs.specs.Entries.{Agrees, entry_at}
 use Rattle.cpog_defs.specs.Encodings.{Encoding, IsEncoding, Fits}
 use Rattle.line_text.specs.Words.{is_free_name}
 use Rattle.pg_algebra.specs.Meaning.{graph_of}
@@ -119,6 +121,20 @@ reported n o is =
       ascending = where_ascend (is_covered o) o.count o.count;
     }
 
+-- ---- codes with no given bit
+
+open_at : (n s : ℕ) (pattern : List Bit3) → slice_get (open_patterns n) s ≡ Some pattern → pattern ≡ []
+open_at zero s p e = absurd (none-some p e)
+open_at (suc n) zero p e = sym (same_Some [] p e)
+open_at (suc n) (suc s) p e = open_at n s p e
+
+-- any codes keep patterns that leave each bit open
+keeps_open : (codes : List ℕ) (n : ℕ) → length codes ≡ n → KeepGivenBits (open_patterns n) codes
+keeps_open codes n each = record {
+  one_each = length-replicate n [] ∙ sym each;
+  kept = λ s word i pattern at given. subst (λ p. Agrees (entry_at p i) (bit word i)) (sym (open_at n s pattern given)) tt;
+}
+
 -- ---- orders of scenarios
 
 pub orders_push : (xs : List Scenario) (os : List Order) (x : Scenario) (o : Order) → AreOrdersOf xs os → IsOrderOfScenario x o → AreOrdersOf (xs ++ x ∷ []) (os ++ o ∷ [])
@@ -220,6 +236,13 @@ module _ (f : Contents) (orders : List Order) (z : AreOrdersOf (scenarios_of f) 
     scenarios = refl;
     codes = subst (λ n. AreCodes 1 n e.codes) orders_each codes;
     fits = (fits_is_fitting_scenarios_lem e (scenarios_of f) orders z).0 fits;
+    encodes = record {
+      bits_are = is.inputs;
+      codes = codes;
+      given = keeps_open e.codes (length orders) codes.one_each;
+      encoding = subst (λ n. IsEncoding n e) same_count is.encoding;
+      fits = fits;
+    };
     conditions = subst (λ n. IsOneBitEncoding n orders e) same_count is;
     bound = (sym (ap length is.no_gate), λ cost l h. absurd (omega arith));
   }

@@ -117,6 +117,7 @@ pub record IsFaultAnswer (input : Input) (output : List ℕ) : Type 0 where
 -- the words name no command, and nothing was read
 pub record IsUsageAnswer (input : Input) (output : List ℕ) : Type 0 where
   pub unread : Keeps input.left input.left_after
+  pub quiet : input.faults_after ≡ input.faults
   pub output_is : output ≡ refusal_text refusal.Usage
 
 -- the answers to `synth`

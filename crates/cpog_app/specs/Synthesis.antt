@@ -3,7 +3,7 @@ use Rattle.std.specs.Prelude.{◌≡◌, ℕ, ◌<◌, ◌≤◌, ◌^◌, List,
 use Rattle.cpog_defs.specs.Orders.{Order}
 use Rattle.cpog_defs.specs.Scenarios.{Scenario, IsBefore, IsLeastCyclic, AreOrdersOf}
 use Rattle.cpog_defs.specs.Codes.{AreCodes, open_patterns}
-use Rattle.cpog_defs.specs.Encodings.{Encoding, FitsScenarios, HasEncoding}
+use Rattle.cpog_defs.specs.Encodings.{Encoding, FitsScenarios, Encodes, HasEncoding}
 use Rattle.pg_algebra.specs.declared.expr.Expr.{Expr}
 use Rattle.pg_algebra.specs.Meaning.{graph_of}
 use Rattle.pg_text.specs.declared.statement.Statement.{Statement}
@@ -43,7 +43,7 @@ abbrev pub IsBoundOf : ℕ → List Order → Encoding → Bound → Type 0
 IsBoundOf count orders e (Minimum h) = (h ≡ length e.gates.gates) × IsLowerBound count orders e h
 IsBoundOf count orders e (Between lo hi) = (hi ≡ length e.gates.gates) × (lo < hi) × IsLowerBound count orders e lo
 
--- the report of a file: its scenarios with their covering pairs, distinct codes, and conditions that fit the scenarios
+-- the report of a file: its scenarios with their covering pairs, distinct codes, conditions that fit the scenarios, and what the bound compares
 pub record IsSynthesis (f : Contents) (r : ReportValue) : Type 0 where
   pub report : IsReport r
   pub bits : r.bits ≡ 1
@@ -56,5 +56,6 @@ pub record IsSynthesis (f : Contents) (r : ReportValue) : Type 0 where
   pub scenarios : r.scenarios ≡ map covering_scenario orders
   pub codes : AreCodes r.bits (length f.statements) r.encoding.codes
   pub fits : FitsScenarios r.encoding (scenarios_of f)
+  pub encodes : Encodes (length f.operations) orders (open_patterns (length orders)) r.bits r.encoding
   pub conditions : IsOneBitEncoding (length f.operations) orders r.encoding
   pub bound : IsBoundOf (length f.operations) orders r.encoding r.bound

@@ -38,6 +38,10 @@ fn word_of(what: Counted) -> &'static str
 }
 
 /// The line that says why, with its line feed.
+///
+/// # Errors
+///
+/// `Memory` where none is left.
 pub fn refusal_line(alloc: Global, refusal: &Refusal) -> Result<Vec<u8>, Memory>
     ensures { IfOk result (λ line. line.items ≡ refusal_text refusal.now) }
 {

@@ -9,7 +9,7 @@ ghost use Rattle.pg_algebra.specs.Meaning.{graph_of};
 ghost use Rattle.pg_algebra.specs.Shapes.{HasOpsBelow};
 ghost use Rattle.cpog_app.specs.Scenarios.{arcs_from, arcs_where, set_where, scenario_of, covering_scenario};
 
-use cpog_base::{Memory, OpId, OpSet, Order, Scenario};
+use cpog_base::{Memory, OpId, OpSet, Order, Scenario, empty_sets};
 use order_reduce::covered_rows;
 use pg_algebra::Expr;
 use std::alloc::Global;
@@ -20,7 +20,7 @@ pub(crate) fn scenario(alloc: Global, expr: &Expr, count: u8) -> Result<Scenario
     requires below { HasOpsBelow count expr.now }
     ensures { IfOk result (λ sc. sc ≡ scenario_of count (graph_of expr.now)) }
 {
-    let mut rows = OpSet::empty_sets(alloc, count)?;
+    let mut rows = empty_sets(alloc, count)?;
     scenario_over(alloc, expr, &mut rows)
 }
 

@@ -19,7 +19,7 @@ pub use limits::{Counted, INPUT_LIMIT, OPERATION_LIMIT, SCENARIO_LIMIT};
 pub use memory::Memory;
 pub use name::Name;
 pub use names::Names;
-pub use op_set::OpSet;
+pub use op_set::{OpSet, empty_sets};
 pub use order::Order;
 pub use scenario::Scenario;
 pub use status::Status;

@@ -40,17 +40,6 @@ impl OpSet {
         OpSet { bits: 0 }
     }
 
-    /// So many sets with no member.
-    pub fn empty_sets(alloc: Global, count: u8) -> Result<Vec<OpSet>, Memory>
-        ensures { IfOk result (λ sets. sets.items ≡ replicate count set.empty) }
-    {
-        let mut sets = Vec::new(alloc);
-        for _ in 0..count {
-            sets.push(OpSet::empty())?;
-        }
-        Ok(sets)
-    }
-
     /// Whether the operation is a member. No number from 128 on is one.
     pub fn contains(&self, v: OpId) -> bool
         ensures { result ≡ set.contains self.now v.0 }
@@ -106,4 +95,15 @@ impl OpSet {
     {
         self.bits.count_ones()
     }
+}
+
+/// So many sets with no member.
+///
+/// # Errors
+///
+/// `Memory` where none is left.
+pub fn empty_sets(alloc: Global, count: u8) -> Result<Vec<OpSet>, Memory>
+    ensures { IfOk result (λ sets. sets.items ≡ replicate count set.empty) }
+{
+    Ok(vec![in alloc; OpSet::empty(); usize::from(count)]?)
 }

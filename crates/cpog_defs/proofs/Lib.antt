@@ -1,2 +1,2 @@
 pub mod WalkLemmas
-pub mod WorkedRows
+pub mod SmallExamples

@@ -45,12 +45,16 @@ pub record AgreesWithColumns (e : Encoding) (count : ℕ) (orders : List Order) 
   pub one_code_each : length e.codes ≡ length orders
   pub agrees : (p : Place) → IsPlace count p → RefAgrees e.gates e.codes (column orders p) (ref_of e.graph p)
 
+-- the encoding has distinct codes of so many bits, which keep the given bits, and fits the scenarios
+pub record Encodes (count : ℕ) (orders : List Order) (patterns : List (List Bit3)) (bits : ℕ) (e : Encoding) : Type 0 where
+  pub bits_are : e.gates.inputs ≡ bits
+  pub codes : AreCodes bits (length orders) e.codes
+  pub given : KeepGivenBits patterns e.codes
+  pub encoding : IsEncoding count e
+  pub fits : Fits e orders
+
 -- The scenarios have an encoding of so many bits at so many gates. Inverters, constants and code bits cost nothing.
 pub record HasEncoding (count : ℕ) (orders : List Order) (patterns : List (List Bit3)) (bits cost : ℕ) : Type 0 where
   pub encoding : Encoding
-  pub bits_are : encoding.gates.inputs ≡ bits
+  pub encodes : Encodes count orders patterns bits encoding
   pub cost_is : length encoding.gates.gates ≡ cost
-  pub codes : AreCodes bits (length orders) encoding.codes
-  pub given : KeepGivenBits patterns encoding.codes
-  pub is_encoding : IsEncoding count encoding
-  pub fits : Fits encoding orders

@@ -68,16 +68,28 @@ fn sixty_four_operations_are_taken(rt: HostRuntime) -> Result<(), Fail> {
     let input = wide_scenario(alloc, 63)?;
     let ending = run(alloc, &["synth"], input.as_bytes())?;
     assert_eq!(rt; ending.status, Status::Ok);
+    assert!(rt;
+        ending
+            .taken
+            .as_slice()
+            .ends_with(b"\nminimum 0\nevidence zero\nopen none\n")
+    );
     Ok(())
 }
 
 #[test]
 fn a_text_too_long_is_told(rt: HostRuntime) -> Result<(), Fail> {
     let alloc = rt.alloc();
-    for (length, status) in [(1048576usize, Status::Names), (1048577usize, Status::Limit)] {
+    let table: [(usize, Status, &[u8]); 3] = [
+        (0, Status::Names, b"cpog: names: no scenario\n"),
+        (1048576, Status::Names, b"cpog: names: no scenario\n"),
+        (1048577, Status::Limit, b"cpog: limit: input 1048576\n"),
+    ];
+    for (length, status, want) in table {
         let input = Vec::from_elem(alloc, b' ', length)?;
         let ending = run(alloc, &["synth"], input.as_slice())?;
         assert_eq!(rt; ending.status, status);
+        assert_eq!(rt; ending.taken.as_slice(), want);
     }
     Ok(())
 }

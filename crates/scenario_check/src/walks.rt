@@ -10,7 +10,7 @@ ghost use Rattle.scenario_check.specs.Rows.{row_has, has_arc, turned, turns, Non
 ghost use Rattle.scenario_check.specs.Faults.{IsCycleFault};
 ghost use Rattle.scenario_check.specs.declared.walks.CycleFault.TheVariants.{Memory};
 
-use cpog_base::{OpId, OpSet, Order, Scenario};
+use cpog_base::{OpId, OpSet, Order, Scenario, empty_sets};
 use std::alloc::Global;
 
 /// Why a scenario has no order.
@@ -108,7 +108,7 @@ pub fn closure(alloc: Global, scenario: &Scenario) -> Result<Order, CycleFault>
     ensures order { IfOk result (IsOrderOfScenario scenario.now) }
     ensures err { IfErr result (IsCycleFault scenario.now) }
 {
-    let mut rows = OpSet::empty_sets(alloc, scenario.count())?;
+    let mut rows = empty_sets(alloc, scenario.count())?;
     match fill(&mut rows, scenario.arcs()) {
         Some(v) => Err(CycleFault::Cyclic(v)),
         None => Ok(Order::from_sets(scenario.ops(), rows)),

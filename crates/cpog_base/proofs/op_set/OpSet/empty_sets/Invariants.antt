@@ -1,6 +1,0 @@
-use Rattle.std.proofs.Common.{◌≡◌, replicate}
-use Rattle.std.specs.FinSet as set
-use Rattle.cpog_base.proofs.op_set.OpSet.empty_sets.Given as goal
-
-abbrev pub invariant-loop : goal.invariant-loop
-invariant-loop l = l.sets.items ≡ replicate l.counter set.empty
