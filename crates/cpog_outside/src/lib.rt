@@ -1,9 +1,9 @@
 //! What the program meets outside: a source of bytes, a sink for them, and their faults.
 //!
 //! A source or a sink may tell its bytes, as those in memory do, and it counts its faults. `read_all` and `write_all`
-//! promise what they do to the told bytes, and that they answer a fault only where the count of faults rose. Standard
-//! input and output tell no bytes: their few lines in `std_ends` are trusted. Of the crates below only the fault
-//! `Memory` of `cpog_base` is used.
+//! promise what they do to the told bytes, and that they answer a fault only where the count of faults rose. `StdSource`
+//! tells what its reader tells. Standard input and output tell no bytes: of what `StdSink` writes, its few lines are
+//! trusted. Of the crates below only the fault `Memory` of `cpog_base` is used.
 #![tactic(auto)]
 
 mod fault_plan;

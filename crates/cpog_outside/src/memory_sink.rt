@@ -33,6 +33,10 @@ impl Model for MemSink {
 impl MemSink {
     /// It holds at most `capacity` bytes, and takes at most `piece` of them a call. `failing` has the numbers of the
     /// calls that fail, from 1.
+    ///
+    /// # Errors
+    ///
+    /// `Memory` where none is left.
     pub fn new(
         alloc: Global,
         capacity: usize,

@@ -16,7 +16,8 @@ pub trait Sink {
     ///
     /// # Errors
     ///
-    /// `Failed` comes only where the count of faults rose in this call, and then no byte was taken.
+    /// `Failed` comes only where the count of faults rose in this call, and then of told bytes none was taken. A sink
+    /// that tells none, as standard output, may have taken some.
     fn write(&mut self, piece: &[u8]) -> Result<usize, Failed>
         requires { 0 < length piece.now }
         ensures some { IfOk result (λ n. 0 < n) }

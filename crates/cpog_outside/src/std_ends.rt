@@ -1,11 +1,13 @@
 ghost use Rattle.std.specs.Prelude.{◌≡◌, ◌≤◌, ◌<◌, None, length, is_err, IfOk, IfSome};
 ghost use Rattle.std.specs.Io.{ReadsAtMost};
+ghost use Rattle.std.specs.Io.KnownBytes.{ReadConsumes};
 ghost use Rattle.cpog_outside.specs.Causes.{HasCause, count_after};
 
 use crate::{Failed, Sink, Source};
 use std::io::{Read, Write};
 
-/// Standard input, or any reader. It tells no bytes, and counts a fault at each error of the reader.
+/// Standard input, or any reader. It tells the bytes that its reader tells, and counts a fault at each error of the
+/// reader. Standard input tells none.
 #[derive(Drop)]
 pub struct StdSource<R> {
     inner: R,
@@ -22,13 +24,14 @@ impl<R: Read> StdSource<R> {
 }
 
 impl<R: Read> Source for StdSource<R> {
-    ghost left = { λ s. None };
+    ghost left = { λ s. R.remaining s.inner };
 
     ghost faults = { λ s. s.faults };
 
     fn read(&mut self, buffer: &mut [u8]) -> Result<usize, Failed>
         requires { 0 < length buffer.old }
         ensures bound { ReadsAtMost result buffer.new }
+        ensures bytes { ReadConsumes (R.remaining self.old.inner) (R.remaining self.new.inner) result buffer.new }
         ensures cause { HasCause self.old.faults self.new.faults result }
         ensures counted { self.new.faults ≡ count_after self.old.faults (is_err result) }
     {
