@@ -109,6 +109,10 @@ impl Scenario {
     }
 
     /// Gives it an arc between two of its operations, where it hasn't it. The two may be one.
+    ///
+    /// # Errors
+    ///
+    /// `Memory` where none is left.
     pub fn add_arc(&mut self, u: OpId, v: OpId) -> Result<(), Memory>
         requires first { IsTrue (set.contains self.old.ops u.0) }
         requires second { IsTrue (set.contains self.old.ops v.0) }

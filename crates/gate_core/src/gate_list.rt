@@ -40,6 +40,10 @@ impl GateList {
     }
 
     /// A list of the same gates.
+    ///
+    /// # Errors
+    ///
+    /// `Memory` where none is left.
     pub fn try_clone(&self, alloc: Global) -> Result<GateList, Memory>
         ensures { IfOk result (λ list. list ≡ self.now) }
     {
@@ -50,6 +54,10 @@ impl GateList {
     }
 
     /// Puts a gate at the end, and answers the number of its signal.
+    ///
+    /// # Errors
+    ///
+    /// `Memory` where none is left.
     pub fn push(&mut self, gate: Gate) -> Result<u32, Memory>
         requires lower { gate.j < gate.k }
         requires earlier { gate.k < signal_count self.old }

@@ -30,6 +30,10 @@ impl Model for ConditionalGraph {
 
 impl ConditionalGraph {
     /// The graph of so many operations in which every condition is the constant 0.
+    ///
+    /// # Errors
+    ///
+    /// `Memory` where none is left.
     pub fn new(alloc: Global, count: u8) -> Result<ConditionalGraph, Memory>
         requires { count ≤ 128 }
         ensures { IfOk result (λ graph. graph ≡ record { ops = replicate count (Const false); arcs = replicate count (replicate count (Const false)) }) }

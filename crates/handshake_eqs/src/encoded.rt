@@ -12,6 +12,10 @@ use std::alloc::Global;
 
 /// The controller of an encoding: its gates and conditions, an arc wire for each pair whose condition isn't the
 /// constant 0, and each operation waits for exactly those from which an arc wire leads to it.
+///
+/// # Errors
+///
+/// `Memory` where none is left.
 pub fn equations(alloc: Global, encoding: &Encoding) -> Result<Netlist, Memory>
     ensures netlist { IfOk result (λ n. IsNetlistOf encoding.now n) }
     ensures agrees { IfOk result (λ n. AgreesOverRuns encoding.now n) }

@@ -35,6 +35,10 @@ impl Model for Netlist {
 
 impl Netlist {
     /// The netlist of so many operations in which each condition is the constant 0, with no arc wire and no wait.
+    ///
+    /// # Errors
+    ///
+    /// `Memory` where none is left.
     pub fn new(alloc: Global, gates: GateList, count: u8) -> Result<Netlist, Memory>
         requires { count ≤ 128 }
         ensures { IfOk result (λ n. n ≡ record { gates = gates; conditions = replicate count (Const false); wires = replicate count (replicate count None); waits = replicate count set.empty }) }
@@ -81,6 +85,10 @@ impl Netlist {
     }
 
     /// Declares the arc wire from `u` to `v`, with this condition.
+    ///
+    /// # Errors
+    ///
+    /// `Memory` where none is left.
     pub fn add_wire(&mut self, u: OpId, v: OpId, r: Ref) -> Result<(), Memory>
         requires first { u.0 < length self.old.conditions }
         requires second { v.0 < length self.old.conditions }
