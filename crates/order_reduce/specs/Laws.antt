@@ -2,7 +2,11 @@
 use Rattle.std.specs.Prelude.{◌↔◌, ℕ, ◌*◌, ◌/◌, ◌≤◌, Bool, IsTrue, length}
 use Rattle.std.specs.FinSet as set
 use Rattle.cpog_defs.specs.Walks.{Walk, IsCovered, IsStrictOrder}
-use Rattle.cpog_defs.specs.Orders.{Order, IsOrder, covering_pairs}
+use Rattle.cpog_defs.specs.Orders.{Order, IsOrder, is_before, is_covered, covering_pairs}
+
+-- the test for covering in an order tells exactly what covering is
+abbrev pub CoveringIsCovered : Type 0
+CoveringIsCovered = (o : Order) → IsOrder o → (u v : ℕ) → IsTrue (is_covered o u v) ↔ IsCovered (is_before o) u v
 
 -- the walks of the covering pairs of a finite strict order are the order
 abbrev pub CoversKeepWalks : Type 0

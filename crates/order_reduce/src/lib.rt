@@ -6,5 +6,5 @@
 mod laws;
 mod reduction;
 
-pub use laws::{covers_are_few, covers_keep_walks};
+pub use laws::{covering_is_covered, covers_are_few, covers_keep_walks};
 pub use reduction::{covered_by, covered_rows, covers};

@@ -35,6 +35,10 @@ pub fn covered_by(order: &Order, v: OpId) -> OpSet
 }
 
 /// For each operation, by its number, those that it covers.
+///
+/// # Errors
+///
+/// `Memory` where none is left.
 pub fn covered_rows(alloc: Global, order: &Order) -> Result<Vec<OpSet>, Memory>
     ensures length { IfOk result (λ rows. length rows.items ≡ order.now.count) }
     ensures covered { IfOk result (λ rows. (u v : ℕ) → v < order.now.count → row_has rows.items u v ≡ is_covered order.now u v) }
@@ -60,7 +64,11 @@ fn push_pairs_from(pairs: &mut Vec<(OpId, OpId)>, rows: &[OpSet], u: OpId) -> Re
 }
 
 /// The covering pairs of an order, by the first and then by the second: the arcs of its transitive reduction (Mokhov
-/// and Yakovlev 2010). The only error is want of memory.
+/// and Yakovlev 2010).
+///
+/// # Errors
+///
+/// `Memory` where none is left.
 pub fn covers(alloc: Global, order: &Order) -> Result<Vec<(OpId, OpId)>, Memory>
     ensures pairs { IfOk result (λ pairs. pairs.items ≡ covering_pairs order.now) }
     ensures walks { IfOk result (λ pairs. (u v : ℕ) → Walk (λ a b. Contains pairs.items (arc_of a b)) u v ↔ IsTrue (is_before order.now u v)) }
