@@ -1,5 +1,5 @@
 -- An encoding fits exactly where its conditions agree with the columns.
-use Rattle.std.proofs.Common.{◌≡◌, ◌≢◌, ◌↔◌, ℕ, ◌≤◌, Bool, true, false, ◌&&◌, if◌then◌else◌, IsTrue, List, [], ◌∷◌, ◌⊎◌, zero, suc, length, All, slice_get, Some, subst, refl, ap, inl, inr, arith}
+use Rattle.std.proofs.Common.{◌≡◌, ◌≢◌, ◌↔◌, ℕ, ◌≤◌, Bool, true, false, ◌&&◌, if◌then◌else◌, IsTrue, List, [], ◌∷◌, ◌⊎◌, zero, suc, length, All, slice_get, Some, subst, refl, sym, ap, ◌∙◌, inl, inr, arith}
 use Rattle.std.proofs.lemmas.Bool.{cases_lt, both_ways, and_parts, and_from, and_left, ne_eqb, eqb-false, not-true, not_from_false, false_from_ne_true, true_from_ne_false}
 use Rattle.std.proofs.lemmas.List.{get_or_past}
 use Rattle.std.proofs.lemmas.List.Elements.{All-get_or}
@@ -14,9 +14,10 @@ use Rattle.cpog_defs.specs.Gates.{ref_value, signal_values}
 use Rattle.cpog_defs.specs.Orders.{Order, has, is_before, IsOrder, IsOrderOf, is_covered}
 use Rattle.cpog_defs.specs.Columns.{entry, column}
 use Rattle.cpog_defs.specs.Graphs.{ConditionalGraph, op_ref, arc_ref, ref_of, keeps, keeps_arc, ProjectsTo, IsPlace}
-use Rattle.cpog_defs.specs.Encodings.{Encoding, IsEncoding, AgreesWithColumns, Fits}
+use Rattle.cpog_defs.specs.Encodings.{Encoding, IsEncoding, RefAgrees, AgreesWithColumns, Fits}
 use Rattle.cpog_defs.proofs.WalkLemmas.{replaced, walked, covered_walk}
 use Rattle.order_reduce.proofs.CoveredLemmas.{covered_from, covered_tells}
+use Rattle.cpog_merge.specs.Table.{Table, column_at, count_of, AreColumnsOf, AgreesWithTable}
 
 -- ---- an entry, by the tests that it is made of
 
@@ -152,3 +153,26 @@ agree_fits e count orders are is_encoding agrees = record {
 
 pub fits_is_agreeing_lem : (e : Encoding) (count : ℕ) (orders : List Order) → All (IsOrderOf count) orders → IsEncoding count e → Fits e orders ↔ AgreesWithColumns e count orders
 fits_is_agreeing_lem e count orders are is_encoding = (fits_agree e count orders are, agree_fits e count orders are is_encoding)
+
+-- ---- the columns in a table
+
+-- an encoding agrees with the columns exactly where it agrees with a table of them
+columns_in_table : (orders : List Order) (t : Table) → AreColumnsOf orders t → (e : Encoding) → AgreesWithColumns e (count_of orders) orders ↔ AgreesWithTable e t
+columns_in_table orders t are e = (
+  λ h. record {
+    one_code_each = h.one_code_each ∙ sym are.scenarios;
+    agrees = λ p q. let place : IsPlace (count_of orders) p = subst (λ n. IsPlace n p) are.count q in
+        subst (λ c. RefAgrees e.gates e.codes c (ref_of e.graph p)) (sym (are.columns p place)) (h.agrees p place);
+  },
+  λ h. record {
+    one_code_each = h.one_code_each ∙ are.scenarios;
+    agrees = λ p q. subst (λ c. RefAgrees e.gates e.codes c (ref_of e.graph p)) (are.columns p q) (h.agrees p (subst (λ n. IsPlace n p) (sym are.count) q));
+  },
+)
+
+-- an encoding fits exactly where it agrees with the table
+pub table_fits : (orders : List Order) (t : Table) → All (IsOrderOf (count_of orders)) orders → AreColumnsOf orders t → (e : Encoding) → IsEncoding (count_of orders) e → Fits e orders ↔ AgreesWithTable e t
+table_fits orders t alike are e is =
+    let fit = fits_is_agreeing_lem e (count_of orders) orders alike is in
+    let same = columns_in_table orders t are e in
+    (λ h. same.0 (fit.0 h), λ h. fit.1 (same.1 h))

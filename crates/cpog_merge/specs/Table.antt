@@ -5,8 +5,9 @@ use Rattle.cpog_defs.specs.declared.types.Bit3.{Bit3}
 use Rattle.cpog_defs.specs.declared.types.Place.{Place}
 use Rattle.cpog_defs.specs.declared.types.Place.TheVariants.{Op, Arc}
 use Rattle.cpog_defs.specs.Orders.{Order}
-use Rattle.cpog_defs.specs.Graphs.{IsPlace}
+use Rattle.cpog_defs.specs.Graphs.{IsPlace, ref_of}
 use Rattle.cpog_defs.specs.Columns.{column}
+use Rattle.cpog_defs.specs.Encodings.{Encoding, RefAgrees}
 
 -- how many operations and scenarios there may be, the columns of the operations, and for each second operation those of its pairs
 pub record Table : Type 0 where
@@ -39,3 +40,8 @@ pub record AreColumnsOf (orders : List Order) (t : Table) : Type 0 where
   pub count : t.count ≡ count_of orders
   pub scenarios : t.scenarios ≡ length orders
   pub columns : (p : Place) → IsPlace (count_of orders) p → column_at t p ≡ column orders p
+
+-- there is one code for each scenario of the table, on which each condition has the values of its column there
+pub record AgreesWithTable (e : Encoding) (t : Table) : Type 0 where
+  pub one_code_each : length e.codes ≡ t.scenarios
+  pub agrees : (p : Place) → IsPlace t.count p → RefAgrees e.gates e.codes (column_at t p) (ref_of e.graph p)

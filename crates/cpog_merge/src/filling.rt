@@ -7,8 +7,8 @@ ghost use Rattle.std.specs.FinSet as set;
 ghost use Rattle.cpog_defs.specs.declared.types.Place.TheVariants.{Op, Arc};
 ghost use Rattle.cpog_defs.specs.Orders.{IsOrderOf, is_covered, each_below};
 ghost use Rattle.cpog_defs.specs.Columns.{op_entry, arc_entry, column};
-ghost use Rattle.cpog_defs.specs.Encodings.{Encoding, IsEncoding, Fits, AgreesWithColumns};
-ghost use Rattle.cpog_merge.specs.Table.{count_of, AreColumnsOf};
+ghost use Rattle.cpog_defs.specs.Encodings.{Encoding, IsEncoding, Fits};
+ghost use Rattle.cpog_merge.specs.Table.{count_of, AreColumnsOf, AgreesWithTable};
 ghost use Rattle.cpog_merge.specs.Filling.{AreCoveredBy, op_columns_of, arc_columns_into, arc_columns_of};
 
 use crate::Columns;
@@ -128,15 +128,19 @@ fn arc_columns(alloc: Global, orders: &[Order], count: u8) -> Result<Vec<Column>
 }
 
 /// The columns of some scenarios: for each operation, and for each ordered pair of them, what each scenario asks of its
-/// condition. The only error is want of memory.
+/// condition.
+///
+/// # Errors
+///
+/// `Memory` where none is left.
 pub fn merge(alloc: Global, orders: &[Order]) -> Result<Columns, Memory>
     requires some { 0 < length orders.now }
     requires few { length orders.now ≤ 64 }
     requires alike { All (IsOrderOf (count_of orders.now)) orders.now }
     ensures columns { IfOk result (AreColumnsOf orders.now) }
 
-    // An encoding fits the scenarios exactly where its conditions agree with the columns.
-    ensures fits { (e : Encoding) → IsEncoding (count_of orders.now) e → Fits e orders.now ↔ AgreesWithColumns e (count_of orders.now) orders.now }
+    // An encoding fits the scenarios exactly where its conditions agree with the columns of the result.
+    ensures fits { IfOk result (λ t. (e : Encoding) → IsEncoding (count_of orders.now) e → Fits e orders.now ↔ AgreesWithTable e t) }
 {
     let count = orders[0].count();
     let ops = op_columns(alloc, orders, count)?;

@@ -1,17 +1,8 @@
 use Rattle.std.proofs.Common.{◌≡◌, ◌≤◌, ◌∙◌, ap, arith}
 use Rattle.cpog_merge.specs.Table.{count_of}
-use Rattle.cpog_merge.proofs.FitLemmas.{fits_is_agreeing_lem}
+use Rattle.cpog_merge.proofs.FitLemmas.{table_fits}
 use Rattle.cpog_merge.proofs.TableLemmas.{is_table, are_columns, first_count}
 use Rattle.cpog_merge.proofs.filling.merge.Goals as goal
-
-pub returns-in_err-ops-clause-fits : goal.returns-in_err-ops-clause-fits
-returns-in_err-ops-clause-fits c = λ e. fits_is_agreeing_lem e (count_of c.args.orders.now) c.args.orders.now c.requires.alike
-
-pub returns-in_err-arcs-clause-fits : goal.returns-in_err-arcs-clause-fits
-returns-in_err-arcs-clause-fits c = λ e. fits_is_agreeing_lem e (count_of c.args.orders.now) c.args.orders.now c.requires.alike
-
-pub returns-clause-fits : goal.returns-clause-fits
-returns-clause-fits c = λ e. fits_is_agreeing_lem e (count_of c.args.orders.now) c.args.orders.now c.requires.alike
 
 pub returns-clause-columns : goal.returns-clause-columns
 returns-clause-columns c =
@@ -19,6 +10,9 @@ returns-clause-columns c =
     let n = c.count-count.result in
     let is : n ≡ count_of orders = c.count-count.ensures.count ∙ ap (λ o. o.count) c.index-orders-0.is ∙ first_count orders c.index-orders-0.result c.requires.some in
     rw (c.from_vecs.ensures, c.in_ok-ops.ensures, c.in_ok-arcs.ensures) (are_columns orders n is)
+
+pub returns-clause-fits : goal.returns-clause-fits
+returns-clause-fits c = table_fits c.args.orders.now _ c.requires.alike (returns-clause-columns c)
 
 pub from_vecs-requires : goal.from_vecs-requires
 from_vecs-requires c =
