@@ -25,7 +25,7 @@ use Rattle.pg_text.specs.Lines.{graph_lines}
 use Rattle.pg_text.specs.Text.{IsGoodLine}
 use Rattle.pg_text.proofs.TextLaws.{one_file, one_first_bad, one_fault, file_has_no_fault}
 use Rattle.report_text.specs.declared.bound.Bound.{Bound}
-use Rattle.report_text.specs.declared.bound.Bound.TheVariants.{Minimum, Between}
+use Rattle.report_text.specs.declared.bound.Bound.TheVariants.{Minimum}
 use Rattle.report_text.specs.Report.{ReportValue}
 use Rattle.report_text.specs.Rows.{report_lines}
 use Rattle.cpog_app.specs.declared.refusal.Refusal.TheVariants as refusal
@@ -113,8 +113,6 @@ module _ (n : ℕ) (orders : List Order) (a b : Encoding) (h : IsOneBitEncoding 
 -- without a gate the bound is the minimum 0
 one_bound : (n : ℕ) (orders : List Order) (a b : Encoding) (c d : Bound) → length a.gates.gates ≡ 0 → length b.gates.gates ≡ 0 → IsBoundOf n orders a c → IsBoundOf n orders b d → c ≡ d
 one_bound n orders a b (Minimum g) (Minimum i) p q h k = ap Minimum (h.0 ∙ p ∙ sym (k.0 ∙ q))
-one_bound n orders a b (Minimum g) (Between lo hi) p q h k = absurd (omega (arith, k.0, k.1, q))
-one_bound n orders a b (Between lo hi) d p q h k = absurd (omega (arith, h.0, h.1, p))
 
 -- reports of equal parts are equal
 same_report : (a b : ReportValue) → a.bits ≡ b.bits → a.budget ≡ b.budget → a.names ≡ b.names → a.scenario_names ≡ b.scenario_names → a.scenarios ≡ b.scenarios → a.encoding ≡ b.encoding → a.bound ≡ b.bound → a ≡ b

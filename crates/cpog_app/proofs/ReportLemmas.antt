@@ -215,7 +215,7 @@ module _ (f : Contents) (orders : List Order) (z : AreOrdersOf (scenarios_of f) 
         one_code_each = codes.one_each ∙ sym (length-map orders covering_scenario);
         few_gates = omega (arith, no_gate);
         encoding = subst (λ n. IsEncoding n e) same_count is.encoding;
-        bound = omega arith;
+        bound = refl;
       }
     where
       named : (s : Statement) → IsStatementOver (length f.operations) s → IsTrue (is_free_name (name_of s))

@@ -18,7 +18,7 @@ use Rattle.line_text.specs.Lines.{text_of}
 use Rattle.line_text.specs.Words.{continues_name}
 use Rattle.line_text.proofs.TellingLemmas.{AllPass, tails, number_told, list_told, free_name_passes}
 use Rattle.report_text.specs.declared.bound.Bound.{Bound}
-use Rattle.report_text.specs.declared.bound.Bound.TheVariants.{Minimum, Between}
+use Rattle.report_text.specs.declared.bound.Bound.TheVariants.{Minimum}
 use Rattle.report_text.specs.Report.{ReportValue, IsReport, AreNames}
 use Rattle.report_text.specs.Rows.{name_of, bits_row, budget_row, operations_row, scenario_lines, gates_row, gate_row, gate_lines, op_row, op_lines, arc_lines, bound_row, end_lines, report_lines}
 use Rattle.report_text.proofs.BelowLemmas.{text_below, below_told, count_told}
@@ -91,7 +91,6 @@ gates_told bits bits' g h ms ms' eb same ga ha gf hf e =
 
 end_after : (b : Bound) (x : List ℕ) → IsAfterArcs (text_of (end_lines b) ++ x)
 end_after (Minimum m) x = (109, _, omega arith, refl)
-end_after (Between lo hi) x = (98, _, omega arith, refl)
 
 graphs_told : (bits signals : ℕ) (names : List (List ℕ)) (g h : ConditionalGraph) (b c : Bound) → signals ≤ 2 ^ 64 → AreNames names → AreDistinct names → IsGraph (length names) signals g → IsGraph (length names) signals h
     → text_of (op_lines bits names g ++ (arc_lines bits names g ++ end_lines b)) ++ [] ≡ text_of (op_lines bits names h ++ (arc_lines bits names h ++ end_lines c)) ++ [] → (g ≡ h) × (text_of (end_lines b) ++ [] ≡ text_of (end_lines c) ++ [])

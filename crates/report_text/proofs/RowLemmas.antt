@@ -17,7 +17,7 @@ use Rattle.line_text.specs.Lines.{text_of}
 use Rattle.line_text.specs.Words.{continues_name}
 use Rattle.line_text.proofs.TellingLemmas.{AllPass, word_told, heads, tails, number_told, until_told}
 use Rattle.report_text.specs.declared.bound.Bound.{Bound}
-use Rattle.report_text.specs.declared.bound.Bound.TheVariants.{Minimum, Between}
+use Rattle.report_text.specs.declared.bound.Bound.TheVariants.{Minimum}
 use Rattle.report_text.specs.Report.{IsBound}
 use Rattle.report_text.specs.Rows.{name_of, digits_of, signal_text, ref_text, gate_row, op_row, arc_row, line_unless_zero, arc_lines_from, arc_lines, bound_row}
 use Rattle.report_text.proofs.BelowLemmas.{flat_below, text_below, same_below, In, in_below, below_in}
@@ -201,15 +201,7 @@ same_graph n signals g h gs hs ops e =
 
 pub bound_told : (a b : Bound) (x y : List ℕ) → IsBound a → IsBound b → bound_row a ++ 10 ∷ x ≡ bound_row b ++ 10 ∷ y → a ≡ b
 bound_told (Minimum m) (Minimum n) x y ha hb e = ap (λ k. Minimum k) ((number_told m n 10 x y (omega arith) (omega arith) refl (append_cancel_left (codes "minimum ") _ _ e)).0)
-bound_told (Minimum m) (Between lo hi) x y ha hb e = absurd (omega (arith, heads 109 98 _ _ e))
-bound_told (Between lo hi) (Minimum n) x y ha hb e = absurd (omega (arith, heads 98 109 _ _ e))
-bound_told (Between lo hi) (Between lo' hi') x y ha hb e =
-    let a = append_cancel_left (codes "between ") _ _ e in
-    let b = number_told lo lo' 32 (decimal hi ++ 10 ∷ x) (decimal hi' ++ 10 ∷ y) (omega (arith, ha.0)) (omega (arith, hb.0)) refl (sym (append_assoc (decimal lo) (32 ∷ decimal hi) (10 ∷ x)) ∙ a ∙ append_assoc (decimal lo') (32 ∷ decimal hi') (10 ∷ y)) in
-    let c = number_told hi hi' 10 x y (omega (arith, ha.1)) (omega (arith, hb.1)) refl b.1 in
-    ap₂ (λ k l. Between k l) b.0 c.0
 
 -- what follows the arcs
 pub bound_after : (b : Bound) (x : List ℕ) → IsAfterArcs (bound_row b ++ x)
 bound_after (Minimum m) x = (109, _, omega arith, refl)
-bound_after (Between lo hi) x = (98, _, omega arith, refl)

@@ -7,7 +7,7 @@ use Rattle.cpog_defs.specs.Scenarios.{Scenario, IsScenario}
 use Rattle.cpog_defs.specs.Encodings.{Encoding, IsEncoding}
 use Rattle.line_text.specs.Words.{is_free_name}
 use Rattle.report_text.specs.declared.bound.Bound.{Bound}
-use Rattle.report_text.specs.declared.bound.Bound.TheVariants.{Minimum, Between}
+use Rattle.report_text.specs.declared.bound.Bound.TheVariants.{Minimum}
 
 -- the scenarios with their names, an encoding of them, and what is known of the least number of gates
 pub record ReportValue : Type 0 where
@@ -29,10 +29,9 @@ pub record IsReported (count : ℕ) (sc : Scenario) : Type 0 where
   pub scenario : IsScenario sc
   pub ascending : AllPairs IsArcBefore sc.arcs
 
--- numbers of gates are below 65536
+-- a minimum of 0 needs no evidence, and no other bound stands without its own
 abbrev pub IsBound : Bound → Type 0
-IsBound (Minimum h) = h < 65536
-IsBound (Between lo hi) = (lo < 65536) × (hi < 65536)
+IsBound (Minimum h) = h ≡ 0
 
 -- each word is a name and no keyword
 abbrev pub AreNames : List (List ℕ) → Type 0

@@ -12,7 +12,7 @@ use Rattle.cpog_defs.specs.Graphs.{ConditionalGraph, op_ref, arc_ref}
 use Rattle.cpog_defs.specs.Orders.{Set, each_below}
 use Rattle.cpog_defs.specs.Scenarios.{Scenario}
 use Rattle.report_text.specs.declared.bound.Bound.{Bound}
-use Rattle.report_text.specs.declared.bound.Bound.TheVariants.{Minimum, Between}
+use Rattle.report_text.specs.declared.bound.Bound.TheVariants.{Minimum}
 use Rattle.report_text.specs.Report.{ReportValue}
 
 -- a bit as its digit
@@ -113,10 +113,9 @@ arc_lines_from inputs names graph u count = each_below (λ v. line_unless_zero (
 abbrev pub arc_lines : ℕ → List (List ℕ) → ConditionalGraph → List (List ℕ)
 arc_lines inputs names graph = each_below (λ u. arc_lines_from inputs names graph u (length names)) (length names)
 
--- the least number of gates, or what it lies between
+-- the least number of gates
 abbrev pub bound_row : Bound → List ℕ
 bound_row (Minimum h) = codes "minimum " ++ decimal h
-bound_row (Between lo hi) = codes "between " ++ (decimal lo ++ (codes " " ++ decimal hi))
 
 abbrev pub head_lines : ReportValue → List (List ℕ)
 head_lines r = codes "cpog report 1" ∷ bits_row r.bits ∷ budget_row r.budget ∷ operations_row r.names ∷ []

@@ -11,7 +11,7 @@ use Rattle.cpog_defs.specs.Encodings.{Encoding}
 use Rattle.cpog_defs.specs.Scenarios.{Scenario}
 use Rattle.cpog_defs.specs.Stored.{scenario_code}
 use Rattle.report_text.specs.declared.bound.Bound.{Bound}
-use Rattle.report_text.specs.declared.bound.Bound.TheVariants.{Minimum, Between}
+use Rattle.report_text.specs.declared.bound.Bound.TheVariants.{Minimum}
 use Rattle.report_text.specs.Report.{ReportValue}
 
 abbrev pub gate_code : Coded Gate
@@ -33,20 +33,17 @@ ref_back (Signal n negated) = refl
 abbrev pub ref_code : Coded Ref
 ref_code = code_by (Bool ⊎ (ℕ × Bool)) (coded⊎ coded_bool (coded× coded_ℕ coded_bool)) from_ref to_ref ref_back
 
-abbrev from_bound : Bound → ℕ ⊎ (ℕ × ℕ)
-from_bound (Minimum h) = inl h
-from_bound (Between lo hi) = inr (lo, hi)
+abbrev from_bound : Bound → ℕ
+from_bound (Minimum h) = h
 
-abbrev to_bound : ℕ ⊎ (ℕ × ℕ) → Bound
-to_bound (inl h) = Minimum h
-to_bound (inr p) = Between p.0 p.1
+abbrev to_bound : ℕ → Bound
+to_bound h = Minimum h
 
 pub bound_back : (b : Bound) → to_bound (from_bound b) ≡ b
 bound_back (Minimum h) = refl
-bound_back (Between lo hi) = refl
 
 abbrev pub bound_code : Coded Bound
-bound_code = code_by (ℕ ⊎ (ℕ × ℕ)) (coded⊎ coded_ℕ (coded× coded_ℕ coded_ℕ)) from_bound to_bound bound_back
+bound_code = code_by ℕ coded_ℕ from_bound to_bound bound_back
 
 abbrev pub gate_list_code : Coded GateList
 gate_list_code = code_by (ℕ × List Gate) (coded× coded_ℕ (coded_list gate_code))

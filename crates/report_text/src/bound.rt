@@ -3,6 +3,4 @@
 pub enum Bound {
     /// It is this number.
     Minimum(u32),
-    /// It is at least the first number and at most the second.
-    Between(u32, u32),
 }

@@ -15,6 +15,10 @@ use std::alloc::{AllocError, Global};
 use std::fmt::Write;
 
 /// The text of a report, in the time of its length.
+///
+/// # Errors
+///
+/// `Memory` where none is left.
 pub fn write_report(alloc: Global, report: &Report) -> Result<Vec<u8>, Memory>
     ensures { IfOk result (λ text. text.items ≡ text_of (report_lines report.now)) }
 {
@@ -234,7 +238,6 @@ fn put_end(out: &mut String, bound: Bound) -> Result<(), AllocError>
 {
     match bound {
         Bound::Minimum(count) => write!(out, "minimum {count}\n")?,
-        Bound::Between(low, high) => write!(out, "between {low} {high}\n")?,
     }
     out.push_str("evidence zero\nopen none\n")
 }
