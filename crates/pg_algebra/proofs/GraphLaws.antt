@@ -1,6 +1,7 @@
 -- Each law is one of truth values at each vertex and each arc.
-use Rattle.std.specs.Prelude.{◌≡◌, refl, ℕ, Bool, true, false, ◌&&◌, ◌||◌}
+use Rattle.std.specs.Prelude.{◌≡◌, refl, ℕ, Bool, true, false, ◌&&◌, ◌||◌, ◌==◌}
 use Rattle.std.proofs.Common.{sym}
+use Rattle.std.proofs.lemmas.Bool.{eq-eqb, eqb-true, false_from_ne_true}
 use Rattle.pg_algebra.specs.Graphs.{Graph}
 use Rattle.pg_algebra.specs.Algebra.{AlgebraOfGraphs}
 
@@ -94,6 +95,8 @@ decompose false false false false e f g = refl
 
 pub algebra_of_graphs : AlgebraOfGraphs
 algebra_of_graphs = record {
+  sequence_arc = λ u v. rw (eq-eqb u u refl, eq-eqb v v refl) refl;
+  sequence_order = λ u v differ. rw (false_from_ne_true (v == u) (λ h. differ (sym (eqb-true v u h)))) refl;
   overlay_commutes = λ p q. same_graph _ _ (λ v. comm (p.vertex v) (q.vertex v)) (λ u v. comm (p.arc u v) (q.arc u v));
   overlay_associates = λ p q r. same_graph _ _ (λ v. assoc (p.vertex v) (q.vertex v) (r.vertex v)) (λ u v. assoc (p.arc u v) (q.arc u v) (r.arc u v));
   overlay_idempotent = λ p. same_graph _ _ (λ v. idem (p.vertex v)) (λ u v. idem (p.arc u v));

@@ -1,8 +1,10 @@
--- The laws of graphs under overlay and sequence (Mokhov and Khomenko 2014).
-use Rattle.std.specs.Prelude.{◌≡◌}
-use Rattle.pg_algebra.specs.Graphs.{Graph, empty, overlay, sequence}
+-- The laws of graphs under overlay and sequence, and which way the arcs of a sequence go (Mokhov and Khomenko 2014).
+use Rattle.std.specs.Prelude.{◌≡◌, ◌≢◌, ℕ, true, false}
+use Rattle.pg_algebra.specs.Graphs.{Graph, empty, single, overlay, sequence}
 
 pub record AlgebraOfGraphs : Type 0 where
+  pub sequence_arc : (u v : ℕ) → (sequence (single u) (single v)).arc u v ≡ true
+  pub sequence_order : (u v : ℕ) → u ≢ v → (sequence (single u) (single v)).arc v u ≡ false
   pub overlay_commutes : (p q : Graph) → overlay p q ≡ overlay q p
   pub overlay_associates : (p q r : Graph) → overlay (overlay p q) r ≡ overlay p (overlay q r)
   pub overlay_idempotent : (p : Graph) → overlay p p ≡ p

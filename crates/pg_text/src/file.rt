@@ -34,7 +34,7 @@ impl Model for File {
 
 impl File {
     /// The file of these statements over these operations.
-    pub fn new(statements: Vec<Numbered>, operations: Names) -> File
+    pub(crate) fn new(statements: Vec<Numbered>, operations: Names) -> File
         requires { IsFile (record { statements = statements.items; operations = operations }) }
         ensures { result ≡ record { statements = statements.items; operations = operations } }
     {

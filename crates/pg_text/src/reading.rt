@@ -49,8 +49,10 @@ fn read_lines(alloc: Global, bytes: &[u8]) -> Result<(Vec<Numbered>, Names), Fil
 
 /// The file that a graph text spells.
 ///
-/// Errors: `BadLine` with the number of the first line that is outside the grammar; `Limit` where every line is good,
-/// with what is counted and the limit, for the scenarios first and then for the operations; `Memory`.
+/// # Errors
+///
+/// `BadLine` with the number of the first line that is outside the grammar; `Limit` where every line is good, with what
+/// is counted and the limit, for the scenarios first and then for the operations; `Memory` where none is left.
 pub fn read_file(alloc: Global, bytes: &[u8]) -> Result<File, FileFault>
     requires { length bytes.now ≤ 536870912 }
     ensures ok { IfOk result (IsFileOf bytes.now) }
