@@ -1,0 +1,10 @@
+use Rattle.std.proofs.Common.{◌∙◌, ap}
+use Rattle.netlist_verilog.specs.Wires.{name_of}
+use Rattle.netlist_verilog.proofs.WritingLemmas.{request_written, name_at}
+use Rattle.netlist_verilog.proofs.equations.put_request.Goals as goal
+
+pub returns : goal.returns
+returns c =
+    request_written c.args.design.now c.args.v.0 _ _ _ _ _
+    (name_at c.names.result.now _ c.args.v.0 _ c.from.ensures c.get-name.ensures ∙ ap (λ ns. name_of ns c.args.v.0) c.names.ensures.names)
+    c.in_ok-write.ensures.bytes c.in_ok-put_waits.ensures c.in_ok-push_str.ensures.bytes

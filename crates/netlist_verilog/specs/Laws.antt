@@ -1,0 +1,43 @@
+-- What is proved of modules.
+use Rattle.std.specs.Prelude.{◌≡◌, ◌≢◌, ℕ, ◌<◌, Bool, length}
+use Rattle.std.specs.List.{AllByRecursion}
+use Rattle.std.specs.FinSet as set
+use Rattle.cpog_defs.specs.Codes.{bit}
+use Rattle.cpog_defs.specs.Gates.{gate_value}
+use Rattle.handshake_eqs.specs.declared.wires.Inputs.{Inputs}
+use Rattle.handshake_eqs.specs.Netlists.{Netlist}
+use Rattle.handshake_eqs.specs.Agreement.{request, done, idle}
+use Rattle.netlist_verilog.specs.Module.{ModuleValue, IsModule}
+use Rattle.netlist_verilog.specs.Wires.{Wire, Signal, Go, Acknowledge, Request, Done, Idle}
+use Rattle.netlist_verilog.specs.Formulas.{value}
+use Rattle.netlist_verilog.specs.Equations.{table_formula, equations}
+use Rattle.netlist_verilog.specs.Rows.{module_lines}
+
+-- the value of a gate's formula is the gate's value by its table
+abbrev pub FormulasAreTables : Type 0
+FormulasAreTables = (at : Wire → Bool) (table : ℕ) (p q : Wire) → value at (table_formula table p q) ≡ gate_value table (at p) (at q)
+
+-- values of the wires on these inputs, under which each equation holds
+pub record IsSettled (n : Netlist) (i : Inputs) (at : Wire → Bool) : Type 0 where
+  pub x : (k : ℕ) → k < n.gates.inputs → at (Signal k) ≡ bit i.x k
+  pub go : at Go ≡ i.go
+  pub acknowledges : (v : ℕ) → v < length n.conditions → at (Acknowledge v) ≡ set.contains i.acks v
+  pub equations_hold : AllByRecursion (λ e. at e.wire ≡ value at e.formula) (equations n)
+
+-- the outputs that the netlist has on these inputs
+pub record HasOutputs (n : Netlist) (i : Inputs) (at : Wire → Bool) : Type 0 where
+  pub requests : (v : ℕ) → v < length n.conditions → at (Request v) ≡ request n i v
+  pub done : at Done ≡ done n i
+  pub idle : at Idle ≡ idle n i
+
+-- wherever a module's equations hold, its outputs are those of its netlist
+abbrev pub EquationsGiveOutputs : Type 0
+EquationsGiveOutputs = (m : ModuleValue) (i : Inputs) (at : Wire → Bool) → IsModule m → IsSettled m.netlist i at → HasOutputs m.netlist i at
+
+-- on all inputs there are values of the wires under which the equations hold
+abbrev pub EquationsSettle : Type 0
+EquationsSettle = (m : ModuleValue) (i : Inputs) → IsModule m → (at : Wire → Bool) × IsSettled m.netlist i at
+
+-- no line of a module holds a line feed
+abbrev pub LinesHoldNoFeed : Type 0
+LinesHoldNoFeed = (m : ModuleValue) → IsModule m → AllByRecursion (λ line. AllByRecursion (λ b. b ≢ 10) line) (module_lines m)

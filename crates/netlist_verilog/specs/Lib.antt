@@ -1,0 +1,7 @@
+pub mod Module
+pub mod Stored
+pub mod Wires
+pub mod Formulas
+pub mod Equations
+pub mod Rows
+pub mod Laws

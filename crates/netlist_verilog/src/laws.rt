@@ -1,0 +1,21 @@
+ghost use Rattle.netlist_verilog.specs.Laws.{FormulasAreTables, EquationsGiveOutputs, EquationsSettle, LinesHoldNoFeed};
+
+/// The value of a gate's formula is the gate's value by its table.
+pub fn formulas_are_tables()
+    ensures { FormulasAreTables }
+{}
+
+/// Wherever the equations of a module hold, its outputs are those of its netlist.
+pub fn equations_give_outputs()
+    ensures { EquationsGiveOutputs }
+{}
+
+/// On all inputs there are values of the wires under which the equations of a module hold.
+pub fn equations_settle()
+    ensures { EquationsSettle }
+{}
+
+/// No line of a module holds a line feed.
+pub fn lines_hold_no_feed()
+    ensures { LinesHoldNoFeed }
+{}

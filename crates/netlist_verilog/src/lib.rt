@@ -1,0 +1,21 @@
+//! The Verilog text of a controller's netlist (a small subset of IEEE 1364-2005).
+//!
+//! A module is a netlist with a name for each operation. Its text is a list of lines, `module_lines`: what it
+//! declares, and its equations, each an assignment of a formula to a wire. The formulas have a text and a value, so
+//! what is printed and what it means are one definition. `write_module` is promised to give exactly that text,
+//! and wherever the printed equations hold, the outputs are those that the netlist settles to.
+//! Names and lines are those of `line_text`, netlists those of `handshake_eqs`.
+#![tactic(auto)]
+
+mod declarations;
+mod equations;
+mod laws;
+mod module;
+mod signal_name;
+#[cfg(test)]
+mod tests;
+mod writing;
+
+pub use laws::{equations_give_outputs, equations_settle, formulas_are_tables, lines_hold_no_feed};
+pub use module::Module;
+pub use writing::{put_module, write_module};
