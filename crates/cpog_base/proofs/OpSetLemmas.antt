@@ -2,12 +2,12 @@
 use Rattle.std.specs.Prelude.{◌≡◌, ℕ, ◌+◌, ◌-◌, ◌*◌, ◌/◌, ◌%◌, ◌^◌, ◌<◌, ◌≤◌, true, false, cond, not, ◌==◌, ◌&&◌, ◌||◌, refl, nat_lt, max, min, bit_and, bit_or, count_ones}
 use Rattle.std.proofs.Common.{suc, zero, inl, inr, sym, ◌∙◌, ap, arith}
 use Rattle.std.specs.Ordering.{nat_cmp}
-use Rattle.std.specs.Int.{bit_at, bit_not, w128}
+use Rattle.std.specs.Int.{bit_at, bit_not, trailing_zeros, w128}
 use Rattle.std.specs.FinSet.{FinSet, empty, insert, remove, union, is_subset, contains, contains-empty, contains-insert, contains-remove, contains-union, contains-difference, difference, is_subset-contains, contains-is_subset, len, len-insert, len-empty, same_set, nat_cmp-IsAntisymmetric}
 use Rattle.std.specs.Cmp.{nat_cmp_total, unsigned_tied}
 use Rattle.std.specs.Ordering.{eq_by_cmp}
 use Rattle.std.proofs.lemmas.Nat.{or_lt}
-use Rattle.std.proofs.lemmas.Nat.Bits.{bit_at-zero, bit_at_or, bit_at_and, bit_at_not, bit_at_set_same, bit_at_set_other, bit_at_clear_same, bit_at_clear_other, shr_and_one, bit_at-lt, same_from_bits_below}
+use Rattle.std.proofs.lemmas.Nat.Bits.{bit_at-zero, bit_at-trailing_zeros, bit_at_or, bit_at_and, bit_at_not, bit_at_set_same, bit_at_set_other, bit_at_clear_same, bit_at_clear_other, shr_and_one, bit_at-lt, same_from_bits_below}
 use Rattle.std.proofs.lemmas.Bool.Decides.{eqb_tells, nat_tests, same_from_decides, Decides-eqb}
 use Rattle.std.proofs.lemmas.Bool.{cases_lt, and_right, ne_eqb, both_ways, le-ltb}
 use Rattle.std.proofs.Math.Arith.{mod-mul}
@@ -15,6 +15,7 @@ use Rattle.std.specs.Int.Bits.{and_lt}
 use native.Mathlib.Nat.{pow-suc, mul_comm, le_refl, mod-lt, mod-one, mod-eq_of_lt}
 use Rattle.std.specs.Int.Count.{ones_cat, ones, ones_in}
 use Rattle.cpog_base.specs.OpSet.{set_below, set_of, contains-inside, contains-outside}
+use Rattle.cpog_base.specs.Members.{IsFirst}
 
 -- a word stands for a set that has the same members
 pub set_of-is : (n : ℕ) (s : FinSet nat_cmp)
@@ -147,3 +148,12 @@ no_high n v h = le-ltb v 128 h ∙ sym (contains-outside 128 n v h)
 
 pub word-union-lt : (m n : ℕ) → m < 2 ^ 128 → n < 2 ^ 128 → bit_or m n < 2 ^ 128
 word-union-lt m n hm hn = or_lt 128 m n hm hn
+
+-- the lowest 1 of a word stands at the least member
+pub first-set_of : (n : ℕ) → 0 < n → n < 2 ^ 128 → IsFirst (set_of n) (trailing_zeros w128 n)
+first-set_of n some lt =
+    let low = bit_at-trailing_zeros w128 n some lt in
+    record {
+      member = contains-inside 128 n (trailing_zeros w128 n) low.0 ∙ ap (λ b. b == 1) low.1;
+      least = λ u before. contains-inside 128 n u (omega (arith, low.0, before)) ∙ ap (λ b. b == 1) (low.2 u before);
+    }

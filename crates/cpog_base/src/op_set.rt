@@ -1,5 +1,6 @@
-ghost use Rattle.std.specs.Prelude.{◌≡◌, ◌<◌, IfOk, replicate};
+ghost use Rattle.std.specs.Prelude.{◌≡◌, ◌<◌, IfOk, MatchOption, replicate};
 ghost use Rattle.std.specs.FinSet as set;
+ghost use Rattle.cpog_base.specs.Members.{IsFirst};
 
 use crate::Memory;
 use cpog_defs::types::OpId;
@@ -87,6 +88,16 @@ impl OpSet {
         ensures { result ≡ set.is_subset self.now other.now }
     {
         self.bits & !other.bits == 0
+    }
+
+    /// The least member, where there is one.
+    pub fn first(&self) -> Option<OpId>
+        ensures { MatchOption result (self.now ≡ set.empty) (λ v. IsFirst self.now v.0) }
+    {
+        if self.bits == 0 {
+            return None;
+        }
+        Some(OpId(self.bits.trailing_zeros() as u8))
     }
 
     /// How many members there are.

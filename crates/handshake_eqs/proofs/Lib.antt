@@ -5,3 +5,4 @@ pub mod PartLemmas
 pub mod EncodedLemmas
 pub mod StepLemmas
 pub mod SettleLemmas
+pub mod MissingLemmas

@@ -28,11 +28,6 @@ any_found p n z l one = (any_tells p n).1 (z, l, one)
 pub neither : (a c : Bool) → a ≡ false → c ≡ true → (a || not c) ≡ false
 neither a c p q = rw (p, q) refl
 
--- waited for and so acknowledged
-pub satisfied_by : (w a x : Bool) → (w ≡ true → a ≡ true) → (not w || (a || x)) ≡ true
-satisfied_by false a x h = refl
-satisfied_by true a x h = rw (h refl) refl
-
 -- waited for, not acknowledged, there and with its arc there
 pub unsatisfied : (w a k r : Bool) → w ≡ true → a ≡ false → k ≡ true → r ≡ true → (not w || (a || (not k || not r))) ≡ false
 unsatisfied w a k r p q s t = rw (p, q, s, t) refl

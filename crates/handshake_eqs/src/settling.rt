@@ -3,7 +3,7 @@ ghost use Rattle.std.specs.Prelude.{◌≡◌, ℕ, ◌<◌, ◌&&◌, not, leng
 ghost use Rattle.std.specs.FinSet as set;
 ghost use Rattle.cpog_defs.specs.Orders.{any_below};
 ghost use Rattle.cpog_defs.specs.Gates.{signal_count, signal_values, ref_value, IsRefOver};
-ghost use Rattle.handshake_eqs.specs.Netlists.{IsWireOver};
+ghost use Rattle.handshake_eqs.specs.Netlists.{wire_of, IsNetlist, IsWireOver};
 ghost use Rattle.handshake_eqs.specs.Agreement.{request, done, idle, request_enabled, all_acknowledged, condition_value, wire_value};
 
 use crate::{Inputs, Netlist, Outputs};
@@ -48,29 +48,33 @@ fn enabled(netlist: &Netlist, values: &[bool], acks: &OpSet) -> OpSet
 
 /// Whether the operation's condition is 1, and each that it waits for is acknowledged or not there.
 fn is_enabled(netlist: &Netlist, values: &[bool], acks: &OpSet, v: OpId) -> bool
+    requires netlist { IsNetlist netlist.now }
     requires values { length values.now ≡ signal_count netlist.now.gates }
     requires below { v.0 < length netlist.now.conditions }
     ensures { result ≡ request_enabled netlist.now values.now acks.now v.0 }
 {
-    let count = netlist.count();
     if !value(netlist.condition(v), values) {
         return false;
     }
-    let waits = netlist.waits(v);
-    if waits.subset(acks) {
-        return true;
-    }
-    for u in 0..count {
-        let u = OpId(u);
-        if waits.contains(u)
-            && !acks.contains(u)
-            && value(netlist.condition(u), values)
-            && wire(netlist.arc_wire(u, v), values)
-        {
+    let mut missing = netlist.waits(v).difference(acks);
+    'missing: while let Some(u) = missing.first() {
+        if is_awaited(netlist, values, u, v) {
             return false;
         }
+        missing.remove(u);
     }
     true
+}
+
+/// Whether the conditions of an operation and of the arc from it are 1.
+fn is_awaited(netlist: &Netlist, values: &[bool], u: OpId, v: OpId) -> bool
+    requires netlist { IsNetlist netlist.now }
+    requires values { length values.now ≡ signal_count netlist.now.gates }
+    requires first { u.0 < length netlist.now.conditions }
+    requires second { v.0 < length netlist.now.conditions }
+    ensures { result ≡ (condition_value netlist.now values.now u.0 && wire_value values.now (wire_of netlist.now u.0 v.0)) }
+{
+    value(netlist.condition(u), values) && wire(netlist.arc_wire(u, v), values)
 }
 
 /// Whether each operation is acknowledged or has the condition 0.
