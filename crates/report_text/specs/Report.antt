@@ -5,11 +5,13 @@ use Rattle.cpog_base.specs.Names.{AreDistinct}
 use Rattle.cpog_defs.specs.declared.types.OpId.{OpId}
 use Rattle.cpog_defs.specs.Scenarios.{Scenario, IsScenario}
 use Rattle.cpog_defs.specs.Encodings.{Encoding, IsEncoding}
+use Rattle.handshake_eqs.specs.Netlists.{Netlist, IsNetlistOf}
 use Rattle.line_text.specs.Words.{is_free_name}
+use Rattle.netlist_verilog.specs.Module.{ModuleValue}
 use Rattle.report_text.specs.declared.bound.Bound.{Bound}
 use Rattle.report_text.specs.declared.bound.Bound.TheVariants.{Minimum}
 
--- the scenarios with their names, an encoding of them, and what is known of the least number of gates
+-- the scenarios with their names, an encoding of them, what is known of the least number of gates, and a netlist
 pub record ReportValue : Type 0 where
   pub bits : ℕ
   pub budget : ℕ
@@ -18,6 +20,11 @@ pub record ReportValue : Type 0 where
   pub scenarios : List Scenario
   pub encoding : Encoding
   pub bound : Bound
+  pub netlist : Netlist
+
+-- the netlist with the names of the operations
+abbrev pub module_of : ReportValue → ModuleValue
+module_of r = record { names = r.names; netlist = r.netlist }
 
 -- an arc comes before another: by their first ends, and then by their second
 abbrev pub IsArcBefore : (OpId × OpId) → (OpId × OpId) → Type 0
@@ -37,8 +44,8 @@ IsBound (Minimum h) = h ≡ 0
 abbrev pub AreNames : List (List ℕ) → Type 0
 AreNames names = All (λ name. IsTrue (is_free_name name)) names
 
--- 1 to 8 bits, a budget of 1 to 8388608, at most 64 operations, 1 to 64 scenarios with a name and a code each, and
--- fewer than 65536 gates
+-- 1 to 8 bits, a budget of 1 to 8388608, at most 64 operations, 1 to 64 scenarios with a name and a code each, fewer
+-- than 65536 gates, and the netlist of the encoding
 pub record IsReport (r : ReportValue) : Type 0 where
   pub some_bit : 1 ≤ r.bits
   pub few_bits : r.bits ≤ 8
@@ -57,3 +64,4 @@ pub record IsReport (r : ReportValue) : Type 0 where
   pub few_gates : length r.encoding.gates.gates < 65536
   pub encoding : IsEncoding (length r.names) r.encoding
   pub bound : IsBound r.bound
+  pub netlist : IsNetlistOf r.encoding r.netlist

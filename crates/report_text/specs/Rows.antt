@@ -13,7 +13,9 @@ use Rattle.cpog_defs.specs.Orders.{Set, each_below}
 use Rattle.cpog_defs.specs.Scenarios.{Scenario}
 use Rattle.report_text.specs.declared.bound.Bound.{Bound}
 use Rattle.report_text.specs.declared.bound.Bound.TheVariants.{Minimum}
-use Rattle.report_text.specs.Report.{ReportValue}
+use Rattle.netlist_verilog.specs.Module.{ModuleValue}
+use Rattle.netlist_verilog.specs.Rows.{module_lines}
+use Rattle.report_text.specs.Report.{ReportValue, module_of}
 
 -- a bit as its digit
 abbrev pub digit : Bool → ℕ
@@ -123,6 +125,10 @@ head_lines r = codes "cpog report 1" ∷ bits_row r.bits ∷ budget_row r.budget
 abbrev pub end_lines : Bound → List (List ℕ)
 end_lines bound = bound_row bound ∷ codes "evidence zero" ∷ codes "open none" ∷ []
 
+-- the module of the netlist, to the end
+abbrev pub netlist_lines : ModuleValue → List (List ℕ)
+netlist_lines m = codes "netlist" ∷ module_lines m
+
 -- the lines of a report
 abbrev pub report_lines : ReportValue → List (List ℕ)
 report_lines r =
@@ -131,4 +137,5 @@ report_lines r =
     ++ (gates_row (length r.encoding.gates.gates) ∷ gate_lines r.bits r.encoding.gates.gates
     ++ (op_lines r.bits r.names r.encoding.graph
     ++ (arc_lines r.bits r.names r.encoding.graph
-    ++ end_lines r.bound))))
+    ++ (end_lines r.bound
+    ++ netlist_lines (module_of r))))))

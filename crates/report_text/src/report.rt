@@ -1,22 +1,24 @@
 ghost use Rattle.std.specs.Prelude.{◌≡◌, ◌≤◌, length};
-ghost use Rattle.report_text.specs.Report.{IsReport};
+ghost use Rattle.report_text.specs.Report.{IsReport, module_of};
 
 use crate::Bound;
 use cpog_base::{Name, Names, Scenario};
 use gate_core::Encoding;
+use netlist_verilog::Module;
 use sqlite_items::Items;
 use std::marker::Model;
 
-/// The scenarios with their names, an encoding of them, and what is known of the least number of gates.
+/// The scenarios with their names, an encoding of them, what is known of the least number of gates, and the module of
+/// the encoding's netlist.
 #[derive(Drop)]
 pub struct Report {
     bits: u8,
     budget: u32,
-    names: Names,
     scenario_names: Items<Name>,
     scenarios: Items<Scenario>,
     encoding: Encoding,
     bound: Bound,
+    design: Module,
 }
 
 impl Model for Report {
@@ -27,9 +29,9 @@ impl Model for Report {
 
     ghost coded = { report_code };
 
-    ghost view = { λ r. record { bits = r.bits; budget = r.budget; names = r.names; scenario_names = r.scenario_names; scenarios = r.scenarios; encoding = r.encoding; bound = r.bound } };
+    ghost view = { λ r. record { bits = r.bits; budget = r.budget; names = r.design.names; scenario_names = r.scenario_names; scenarios = r.scenarios; encoding = r.encoding; bound = r.bound; netlist = r.design.netlist } };
 
-    ghost invariant = { λ r. IsReport (record { bits = r.bits; budget = r.budget; names = r.names; scenario_names = r.scenario_names; scenarios = r.scenarios; encoding = r.encoding; bound = r.bound }) };
+    ghost invariant = { λ r. IsReport (record { bits = r.bits; budget = r.budget; names = r.design.names; scenario_names = r.scenario_names; scenarios = r.scenarios; encoding = r.encoding; bound = r.bound; netlist = r.design.netlist }) };
 }
 
 impl Report {
@@ -37,23 +39,23 @@ impl Report {
     pub fn new(
         bits: u8,
         budget: u32,
-        names: Names,
         scenario_names: Vec<Name>,
         scenarios: Vec<Scenario>,
         encoding: Encoding,
         bound: Bound,
+        design: Module,
     ) -> Report
-        requires { IsReport (record { bits = bits; budget = budget; names = names; scenario_names = scenario_names.items; scenarios = scenarios.items; encoding = encoding; bound = bound }) }
-        ensures { result ≡ record { bits = bits; budget = budget; names = names; scenario_names = scenario_names.items; scenarios = scenarios.items; encoding = encoding; bound = bound } }
+        requires { IsReport (record { bits = bits; budget = budget; names = design.names; scenario_names = scenario_names.items; scenarios = scenarios.items; encoding = encoding; bound = bound; netlist = design.netlist }) }
+        ensures { result ≡ record { bits = bits; budget = budget; names = design.names; scenario_names = scenario_names.items; scenarios = scenarios.items; encoding = encoding; bound = bound; netlist = design.netlist } }
     {
         Report {
             bits,
             budget,
-            names,
             scenario_names: Items::from_vec(scenario_names),
             scenarios: Items::from_vec(scenarios),
             encoding,
             bound,
+            design,
         }
     }
 
@@ -76,7 +78,7 @@ impl Report {
     pub fn names(&self) -> &Names
         ensures { result.now ≡ self.now.names }
     {
-        &self.names
+        self.design.names()
     }
 
     /// The names of the scenarios.
@@ -105,5 +107,12 @@ impl Report {
         ensures { result ≡ self.now.bound }
     {
         self.bound
+    }
+
+    /// The netlist of the encoding, with the names of the operations.
+    pub fn design(&self) -> &Module
+        ensures { result.now ≡ module_of self.now }
+    {
+        &self.design
     }
 }

@@ -4,13 +4,14 @@ ghost use Rattle.std.specs.FinSet as set;
 ghost use Rattle.cpog_defs.specs.Orders.{each_below};
 ghost use Rattle.cpog_defs.specs.Scenarios.{IsScenario};
 ghost use Rattle.line_text.specs.Lines.{text_of};
-ghost use Rattle.report_text.specs.Rows.{name_of, blank_names, scenario_row, has_row, arcs_row, scenario_lines, gates_row, gate_row, gate_lines, op_row, op_lines, arc_row, arc_lines_from, arc_lines, head_lines, end_lines, report_lines, line_unless_zero};
+ghost use Rattle.report_text.specs.Rows.{name_of, blank_names, scenario_row, has_row, arcs_row, scenario_lines, gates_row, gate_row, gate_lines, op_row, op_lines, arc_row, arc_lines_from, arc_lines, head_lines, end_lines, netlist_lines, report_lines, line_unless_zero};
 
 use crate::signals::{put_digits, put_ref, put_signal};
 use crate::{Bound, Report};
 use cpog_base::{Memory, Names, OpId, OpSet, Scenario};
 use cpog_defs::types::{Gate, Ref};
 use gate_core::ConditionalGraph;
+use netlist_verilog::{Module, put_module};
 use std::alloc::{AllocError, Global};
 use std::fmt::Write;
 
@@ -31,6 +32,7 @@ pub fn write_report(alloc: Global, report: &Report) -> Result<Vec<u8>, Memory>
     put_ops(&mut out, bits, report.names(), encoding.graph())?;
     put_arcs(&mut out, bits, report.names(), encoding.graph())?;
     put_end(&mut out, report.bound())?;
+    put_netlist(&mut out, report.design())?;
     Ok(out.into_bytes())
 }
 
@@ -240,4 +242,11 @@ fn put_end(out: &mut String, bound: Bound) -> Result<(), AllocError>
         Bound::Minimum(count) => write!(out, "minimum {count}\n")?,
     }
     out.push_str("evidence zero\nopen none\n")
+}
+
+fn put_netlist(out: &mut String, design: &Module) -> Result<(), Memory>
+    ensures { OnOk result (string_bytes out.new ≡ string_bytes out.old ++ text_of (netlist_lines design.now)) }
+{
+    out.push_str("netlist\n")?;
+    put_module(out, design)
 }
