@@ -1,4 +1,4 @@
--- Two reports with the same text are one: its parts are told from the front on.
+-- Two reports with the same text are one: its parts are told from the front on, up to the netlist, which the encoding tells.
 use Rattle.std.proofs.Common.{◌≡◌, ℕ, zero, suc, ◌+◌, ◌^◌, ◌<◌, ◌≤◌, List, [], ◌∷◌, ◌++◌, length, get_or, refl, sym, ap, ap₂, ◌∙◌, arith, append_assoc, subst}
 use Rattle.std.specs.Prelude.{codes, slice_index}
 use Rattle.std.specs.List.{AllByRecursion}
@@ -14,16 +14,18 @@ use Rattle.cpog_defs.specs.Gates.{GateList, AreGatesFrom, signal_count}
 use Rattle.cpog_defs.specs.Graphs.{ConditionalGraph, IsGraph, op_ref}
 use Rattle.cpog_defs.specs.Encodings.{Encoding}
 use Rattle.cpog_defs.specs.Scenarios.{Scenario}
+use Rattle.handshake_eqs.specs.Netlists.{IsNetlistOf}
 use Rattle.line_text.specs.Lines.{text_of}
 use Rattle.line_text.specs.Words.{continues_name}
 use Rattle.line_text.proofs.TellingLemmas.{AllPass, tails, number_told, list_told, free_name_passes}
 use Rattle.report_text.specs.declared.bound.Bound.{Bound}
 use Rattle.report_text.specs.declared.bound.Bound.TheVariants.{Minimum}
-use Rattle.report_text.specs.Report.{ReportValue, IsReport, AreNames}
-use Rattle.report_text.specs.Rows.{name_of, bits_row, budget_row, operations_row, scenario_lines, gates_row, gate_row, gate_lines, op_row, op_lines, arc_lines, bound_row, end_lines, report_lines}
+use Rattle.report_text.specs.Report.{ReportValue, IsReport, AreNames, module_of}
+use Rattle.report_text.specs.Rows.{name_of, bits_row, budget_row, operations_row, scenario_lines, gates_row, gate_row, gate_lines, op_row, op_lines, arc_lines, bound_row, end_lines, netlist_lines, report_lines}
 use Rattle.report_text.proofs.BelowLemmas.{text_below, below_told, count_told}
 use Rattle.report_text.proofs.RowLemmas.{lines_differ, gate_told, op_told, entries_told, same_graph, bound_told, IsAfterArcs}
 use Rattle.report_text.proofs.ScenarioLemmas.{block, block_told}
+use Rattle.report_text.proofs.NetlistLemmas.{one_netlist}
 
 lists_differ : (ls ls' ms ms' : List (List ℕ)) (x y : List ℕ) → text_of (ls ++ ms) ++ x ≡ text_of (ls' ++ ms') ++ y → text_of ls ++ (text_of ms ++ x) ≡ text_of ls' ++ (text_of ms' ++ y)
 lists_differ ls ls' ms ms' x y e = sym (split ls ms x) ∙ e ∙ split ls' ms' y
@@ -89,20 +91,20 @@ gates_told bits bits' g h ms ms' eb same ga ha gf hf e =
 
 -- ---- conditions
 
-end_after : (b : Bound) (x : List ℕ) → IsAfterArcs (text_of (end_lines b) ++ x)
-end_after (Minimum m) x = (109, _, omega arith, refl)
+end_after : (b : Bound) (ms : List (List ℕ)) → IsAfterArcs (text_of (end_lines b ++ ms) ++ [])
+end_after (Minimum m) ms = (109, _, omega arith, refl)
 
-graphs_told : (bits signals : ℕ) (names : List (List ℕ)) (g h : ConditionalGraph) (b c : Bound) → signals ≤ 2 ^ 64 → AreNames names → AreDistinct names → IsGraph (length names) signals g → IsGraph (length names) signals h
-    → text_of (op_lines bits names g ++ (arc_lines bits names g ++ end_lines b)) ++ [] ≡ text_of (op_lines bits names h ++ (arc_lines bits names h ++ end_lines c)) ++ [] → (g ≡ h) × (text_of (end_lines b) ++ [] ≡ text_of (end_lines c) ++ [])
-graphs_told bits signals names g h b c fit are distinct gs hs e =
+graphs_told : (bits signals : ℕ) (names : List (List ℕ)) (g h : ConditionalGraph) (b c : Bound) (ms ms' : List (List ℕ)) → signals ≤ 2 ^ 64 → AreNames names → AreDistinct names → IsGraph (length names) signals g → IsGraph (length names) signals h
+    → text_of (op_lines bits names g ++ (arc_lines bits names g ++ (end_lines b ++ ms))) ++ [] ≡ text_of (op_lines bits names h ++ (arc_lines bits names h ++ (end_lines c ++ ms'))) ++ [] → (g ≡ h) × (text_of (end_lines b ++ ms) ++ [] ≡ text_of (end_lines c ++ ms') ++ [])
+graphs_told bits signals names g h b c ms ms' fit are distinct gs hs e =
     let n = length names in
     let row : ConditionalGraph → ℕ → List (List ℕ) = λ (z : ConditionalGraph) (v : ℕ). op_row bits (name_of names v) (op_ref z v) ∷ [] in
-    let e1 = groups_differ (row g) (row h) n n (arc_lines bits names g ++ end_lines b) (arc_lines bits names h ++ end_lines c) [] [] e in
+    let e1 = groups_differ (row g) (row h) n n (arc_lines bits names g ++ (end_lines b ++ ms)) (arc_lines bits names h ++ (end_lines c ++ ms')) [] [] e in
     let ops = below_told (λ v. text_of (row g v)) (λ v. text_of (row h v)) (λ v. op_ref g v ≡ op_ref h v) n
     (λ v lt x y t. op_told bits signals (name_of names v) (op_ref g v) (op_ref h v) x y fit (gs.over (Op (record { 0 = v })) lt) (hs.over (Op (record { 0 = v })) lt) t)
-    (text_of (arc_lines bits names g ++ end_lines b) ++ []) (text_of (arc_lines bits names h ++ end_lines c) ++ []) e1 in
-    let e2 = lists_differ (arc_lines bits names g) (arc_lines bits names h) (end_lines b) (end_lines c) [] [] ops.1 in
-    let arcs = entries_told bits signals names g h (text_of (end_lines b) ++ []) (text_of (end_lines c) ++ []) fit distinct (passes names are) gs hs (end_after b []) (end_after c []) e2 in
+    (text_of (arc_lines bits names g ++ (end_lines b ++ ms)) ++ []) (text_of (arc_lines bits names h ++ (end_lines c ++ ms')) ++ []) e1 in
+    let e2 = lists_differ (arc_lines bits names g) (arc_lines bits names h) (end_lines b ++ ms) (end_lines c ++ ms') [] [] ops.1 in
+    let arcs = entries_told bits signals names g h (text_of (end_lines b ++ ms) ++ []) (text_of (end_lines c ++ ms') ++ []) fit distinct (passes names are) gs hs (end_after b ms) (end_after c ms') e2 in
     (same_graph n signals g h gs hs ops.0 arcs.0, arcs.1)
 
 -- ---- the whole report
@@ -110,7 +112,7 @@ graphs_told bits signals names g h b c fit are distinct gs hs e =
 abbrev after_scenarios : ReportValue → List (List ℕ)
 after_scenarios r =
     gates_row (length r.encoding.gates.gates)
-    ∷ (gate_lines r.bits r.encoding.gates.gates ++ (op_lines r.bits r.names r.encoding.graph ++ (arc_lines r.bits r.names r.encoding.graph ++ end_lines r.bound)))
+    ∷ (gate_lines r.bits r.encoding.gates.gates ++ (op_lines r.bits r.names r.encoding.graph ++ (arc_lines r.bits r.names r.encoding.graph ++ (end_lines r.bound ++ netlist_lines (module_of r)))))
 
 same_gate_lists : (g h : GateList) → g.inputs ≡ h.inputs → g.gates ≡ h.gates → g ≡ h
 same_gate_lists g h p q = λ i. record { inputs = p i; gates = q i }
@@ -118,8 +120,8 @@ same_gate_lists g h p q = λ i. record { inputs = p i; gates = q i }
 same_encodings : (e f : Encoding) → e.codes ≡ f.codes → e.gates ≡ f.gates → e.graph ≡ f.graph → e ≡ f
 same_encodings e f p q r = λ i. record { codes = p i; gates = q i; graph = r i }
 
-same_reports : (a b : ReportValue) → a.bits ≡ b.bits → a.budget ≡ b.budget → a.names ≡ b.names → a.scenario_names ≡ b.scenario_names → a.scenarios ≡ b.scenarios → a.encoding ≡ b.encoding → a.bound ≡ b.bound → a ≡ b
-same_reports a b p q r s t u v = λ i. record { bits = p i; budget = q i; names = r i; scenario_names = s i; scenarios = t i; encoding = u i; bound = v i }
+same_reports : (a b : ReportValue) → a.bits ≡ b.bits → a.budget ≡ b.budget → a.names ≡ b.names → a.scenario_names ≡ b.scenario_names → a.scenarios ≡ b.scenarios → a.encoding ≡ b.encoding → a.bound ≡ b.bound → a.netlist ≡ b.netlist → a ≡ b
+same_reports a b p q r s t u v w = λ i. record { bits = p i; budget = q i; names = r i; scenario_names = s i; scenarios = t i; encoding = u i; bound = v i; netlist = w i }
 
 record SameHead (a b : ReportValue) : Type 0 where
   bits : a.bits ≡ b.bits
@@ -166,7 +168,7 @@ end_told : (a b : ReportValue) → IsReport a → IsReport b → SameHead a b �
 end_told a b ia ib head e =
     let ga = a.encoding.gates in
     let gb = b.encoding.gates in
-    let after : ReportValue → List (List ℕ) = λ (r : ReportValue). op_lines r.bits r.names r.encoding.graph ++ (arc_lines r.bits r.names r.encoding.graph ++ end_lines r.bound) in
+    let after : ReportValue → List (List ℕ) = λ (r : ReportValue). op_lines r.bits r.names r.encoding.graph ++ (arc_lines r.bits r.names r.encoding.graph ++ (end_lines r.bound ++ netlist_lines (module_of r))) in
     let count = number_told (length ga.gates) (length gb.gates) 10 (text_of (gate_lines a.bits ga.gates ++ after a) ++ []) (text_of (gate_lines b.bits gb.gates ++ after b) ++ []) (omega (arith, ia.few_gates)) (omega (arith, ib.few_gates)) refl
     (append_cancel_left (codes "gates ") _ _ (lines_differ (gates_row (length ga.gates)) (gates_row (length gb.gates)) (gate_lines a.bits ga.gates ++ after a) (gate_lines b.bits gb.gates ++ after b) [] [] e)) in
     let inputs : ga.inputs ≡ gb.inputs = ia.inputs ∙ head.bits ∙ sym ib.inputs in
@@ -175,9 +177,9 @@ end_told a b ia ib head e =
     let signals : signal_count gb ≡ signal_count ga = ap signal_count (sym same) in
     let hb : IsGraph (length a.names) (signal_count ga) b.encoding.graph =
     subst (λ (n : ℕ). IsGraph n (signal_count ga) b.encoding.graph) (ap length (sym head.names)) (subst (λ (n : ℕ). IsGraph (length b.names) n b.encoding.graph) signals ib.encoding.graph) in
-    let e' = gates.1 ∙ ap₂ (λ (bits : ℕ) (names : List (List ℕ)). text_of (op_lines bits names b.encoding.graph ++ (arc_lines bits names b.encoding.graph ++ end_lines b.bound)) ++ []) (sym head.bits) (sym head.names) in
-    let graph = graphs_told a.bits (signal_count ga) a.names a.encoding.graph b.encoding.graph a.bound b.bound (omega (arith, ia.inputs, ia.few_bits, ia.few_gates)) ia.names ia.distinct ia.encoding.graph hb e' in
-    let bound = bound_told a.bound b.bound _ _ ia.bound ib.bound (lines_differ (bound_row a.bound) (bound_row b.bound) (codes "evidence zero" ∷ codes "open none" ∷ []) (codes "evidence zero" ∷ codes "open none" ∷ []) [] [] graph.1) in
+    let e' = gates.1 ∙ ap₂ (λ (bits : ℕ) (names : List (List ℕ)). text_of (op_lines bits names b.encoding.graph ++ (arc_lines bits names b.encoding.graph ++ (end_lines b.bound ++ netlist_lines (module_of b)))) ++ []) (sym head.bits) (sym head.names) in
+    let graph = graphs_told a.bits (signal_count ga) a.names a.encoding.graph b.encoding.graph a.bound b.bound (netlist_lines (module_of a)) (netlist_lines (module_of b)) (omega (arith, ia.inputs, ia.few_bits, ia.few_gates)) ia.names ia.distinct ia.encoding.graph hb e' in
+    let bound = bound_told a.bound b.bound _ _ ia.bound ib.bound (lines_differ (bound_row a.bound) (bound_row b.bound) (codes "evidence zero" ∷ codes "open none" ∷ netlist_lines (module_of a)) (codes "evidence zero" ∷ codes "open none" ∷ netlist_lines (module_of b)) [] [] graph.1) in
     record { gates = same; graph = graph.0; bound = bound }
 
 -- two reports with the same text are one
@@ -189,4 +191,5 @@ report_told a b ia ib e =
     let names' = ext_get_or [] a.scenario_names b.scenario_names (ia.one_name_each ∙ all.count ∙ sym ib.one_name_each) (λ k lt. (all.each k (omega (arith, ia.one_name_each))).name) in
     let codes' = ext_get_or 0 a.encoding.codes b.encoding.codes (ia.one_code_each ∙ all.count ∙ sym ib.one_code_each) (λ k lt. (all.each k (omega (arith, ia.one_code_each))).code) in
     let scenarios' = ext_get_or (record { count = 0; ops = set.empty; arcs = [] }) a.scenarios b.scenarios all.count (λ k lt. (all.each k lt).scenario) in
-    same_reports a b head.bits head.budget head.names names' scenarios' (same_encodings a.encoding b.encoding codes' end.gates end.graph) end.bound
+    let encoding' = same_encodings a.encoding b.encoding codes' end.gates end.graph in
+    same_reports a b head.bits head.budget head.names names' scenarios' encoding' end.bound (one_netlist a.encoding a.netlist b.netlist ia.netlist (subst (λ (e : Encoding). IsNetlistOf e b.netlist) (sym encoding') ib.netlist))

@@ -3,4 +3,5 @@ pub mod BelowLemmas
 pub mod WordLemmas
 pub mod RowLemmas
 pub mod ScenarioLemmas
+pub mod NetlistLemmas
 pub mod LawLemmas

@@ -42,7 +42,7 @@ member_has s n v h =
     let b = one_cases (set.contains s a.0) a.0 v a.2 in
     ap (set.contains s) b.1 ∙ b.0
 
-bool_same : (a b : Bool) → (a ≡ true → b ≡ true) → (b ≡ true → a ≡ true) → a ≡ b
+pub bool_same : (a b : Bool) → (a ≡ true → b ≡ true) → (b ≡ true → a ≡ true) → a ≡ b
 bool_same true b f g = sym (f refl)
 bool_same false true f g = g refl
 bool_same false false f g = refl

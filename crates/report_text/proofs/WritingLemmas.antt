@@ -14,9 +14,10 @@ use Rattle.cpog_defs.specs.declared.types.OpId.{OpId}
 use Rattle.cpog_defs.specs.declared.types.Ref.{Ref}
 use Rattle.cpog_defs.specs.declared.types.Gate.{Gate}
 use Rattle.report_text.specs.declared.bound.Bound.{Bound}
-use Rattle.report_text.specs.Report.{ReportValue}
+use Rattle.netlist_verilog.specs.Module.{ModuleValue}
+use Rattle.report_text.specs.Report.{ReportValue, module_of}
 use Rattle.line_text.specs.Lines.{text_of}
-use Rattle.report_text.specs.Rows.{blank_names, name_of, members_below, op_row, arc_row, arc_text, arc_lines_from, line_unless_zero, head_lines, scenario_lines, gates_row, gate_lines, op_lines, arc_lines, end_lines, report_lines}
+use Rattle.report_text.specs.Rows.{blank_names, name_of, members_below, op_row, arc_row, arc_text, arc_lines_from, line_unless_zero, head_lines, scenario_lines, gates_row, gate_lines, op_lines, arc_lines, end_lines, netlist_lines, report_lines}
 
 -- a line that was written up to its line feed
 pub line_ends : (a row : List ℕ) → (a ++ row) ++ 10 ∷ [] ≡ a ++ text_of (row ∷ [])
@@ -89,29 +90,31 @@ pub at_place : (names : List (List ℕ)) (i v : ℕ) (name : List ℕ) → i ≡
 at_place names i v name e h = ap (slice_get names) (sym e) ∙ h
 
 -- the parts of a report, written one after another
-pub parts_written : (h s g p a e : List (List ℕ)) (o1 o2 o3 o4 o5 o6 : List ℕ) → o1 ≡ text_of h → o2 ≡ o1 ++ text_of s → o3 ≡ o2 ++ text_of g → o4 ≡ o3 ++ text_of p → o5 ≡ o4 ++ text_of a → o6 ≡ o5 ++ text_of e
-    → o6 ≡ text_of (h ++ (s ++ (g ++ (p ++ (a ++ e)))))
-parts_written h s g p a e o1 o2 o3 o4 o5 o6 e1 e2 e3 e4 e5 e6 =
-    e6
-    ∙ ap (λ x. x ++ text_of e) (e5 ∙ ap (λ x. x ++ text_of a) (e4 ∙ ap (λ x. x ++ text_of p) (e3 ∙ ap (λ x. x ++ text_of g) (e2 ∙ ap (λ x. x ++ text_of s) e1))))
-    ∙ text_more ((((text_of h ++ text_of s) ++ text_of g) ++ text_of p)) a e
-    ∙ text_more ((text_of h ++ text_of s) ++ text_of g) p (a ++ e)
-    ∙ text_more (text_of h ++ text_of s) g (p ++ (a ++ e))
-    ∙ text_more (text_of h) s (g ++ (p ++ (a ++ e)))
-    ∙ text_more [] h (s ++ (g ++ (p ++ (a ++ e))))
+pub parts_written : (h s g p a e n : List (List ℕ)) (o1 o2 o3 o4 o5 o6 o7 : List ℕ) → o1 ≡ text_of h → o2 ≡ o1 ++ text_of s → o3 ≡ o2 ++ text_of g → o4 ≡ o3 ++ text_of p → o5 ≡ o4 ++ text_of a → o6 ≡ o5 ++ text_of e → o7 ≡ o6 ++ text_of n
+    → o7 ≡ text_of (h ++ (s ++ (g ++ (p ++ (a ++ (e ++ n))))))
+parts_written h s g p a e n o1 o2 o3 o4 o5 o6 o7 e1 e2 e3 e4 e5 e6 e7 =
+    e7
+    ∙ ap (λ x. x ++ text_of n) (e6 ∙ ap (λ x. x ++ text_of e) (e5 ∙ ap (λ x. x ++ text_of a) (e4 ∙ ap (λ x. x ++ text_of p) (e3 ∙ ap (λ x. x ++ text_of g) (e2 ∙ ap (λ x. x ++ text_of s) e1)))))
+    ∙ text_more (((((text_of h ++ text_of s) ++ text_of g) ++ text_of p) ++ text_of a)) e n
+    ∙ text_more (((text_of h ++ text_of s) ++ text_of g) ++ text_of p) a (e ++ n)
+    ∙ text_more ((text_of h ++ text_of s) ++ text_of g) p (a ++ (e ++ n))
+    ∙ text_more (text_of h ++ text_of s) g (p ++ (a ++ (e ++ n)))
+    ∙ text_more (text_of h) s (g ++ (p ++ (a ++ (e ++ n))))
+    ∙ text_more [] h (s ++ (g ++ (p ++ (a ++ (e ++ n)))))
 
-pub report_written : (r : ReportValue) (bits : ℕ) (gates : List Gate) (names names' : List (List ℕ)) (graph graph' : ConditionalGraph) (bound : Bound) (o0 o1 o2 o3 o4 o5 o6 : List ℕ)
-    → bits ≡ r.bits → gates ≡ r.encoding.gates.gates → names ≡ r.names → graph ≡ r.encoding.graph → names' ≡ r.names → graph' ≡ r.encoding.graph → bound ≡ r.bound → o0 ≡ []
+pub report_written : (r : ReportValue) (bits : ℕ) (gates : List Gate) (names names' : List (List ℕ)) (graph graph' : ConditionalGraph) (bound : Bound) (design : ModuleValue) (o0 o1 o2 o3 o4 o5 o6 o7 : List ℕ)
+    → bits ≡ r.bits → gates ≡ r.encoding.gates.gates → names ≡ r.names → graph ≡ r.encoding.graph → names' ≡ r.names → graph' ≡ r.encoding.graph → bound ≡ r.bound → design ≡ module_of r → o0 ≡ []
     → o1 ≡ o0 ++ text_of (head_lines r) → o2 ≡ o1 ++ text_of (each_below (scenario_lines r) (length r.scenarios)) → o3 ≡ o2 ++ text_of (gates_row (length gates) ∷ gate_lines bits gates)
-    → o4 ≡ o3 ++ text_of (op_lines bits names graph) → o5 ≡ o4 ++ text_of (arc_lines bits names' graph') → o6 ≡ o5 ++ text_of (end_lines bound) → o6 ≡ text_of (report_lines r)
-report_written r bits gates names names' graph graph' bound o0 o1 o2 o3 o4 o5 o6 eb eg en er en' er' ed none e1 e2 e3 e4 e5 e6 =
-    parts_written (head_lines r) (each_below (scenario_lines r) (length r.scenarios)) (gates_row (length r.encoding.gates.gates) ∷ gate_lines r.bits r.encoding.gates.gates) (op_lines r.bits r.names r.encoding.graph) (arc_lines r.bits r.names r.encoding.graph) (end_lines r.bound) o1 o2 o3 o4 o5 o6
+    → o4 ≡ o3 ++ text_of (op_lines bits names graph) → o5 ≡ o4 ++ text_of (arc_lines bits names' graph') → o6 ≡ o5 ++ text_of (end_lines bound) → o7 ≡ o6 ++ text_of (netlist_lines design) → o7 ≡ text_of (report_lines r)
+report_written r bits gates names names' graph graph' bound design o0 o1 o2 o3 o4 o5 o6 o7 eb eg en er en' er' ed em none e1 e2 e3 e4 e5 e6 e7 =
+    parts_written (head_lines r) (each_below (scenario_lines r) (length r.scenarios)) (gates_row (length r.encoding.gates.gates) ∷ gate_lines r.bits r.encoding.gates.gates) (op_lines r.bits r.names r.encoding.graph) (arc_lines r.bits r.names r.encoding.graph) (end_lines r.bound) (netlist_lines (module_of r)) o1 o2 o3 o4 o5 o6 o7
     (e1 ∙ ap (λ x. x ++ text_of (head_lines r)) none)
     e2
     (e3 ∙ ap₂ (λ b g. o2 ++ text_of (gates_row (length g) ∷ gate_lines b g)) eb eg)
     (e4 ∙ ap₂ (λ b n. o3 ++ text_of (op_lines b n graph)) eb en ∙ ap (λ g. o3 ++ text_of (op_lines r.bits r.names g)) er)
     (e5 ∙ ap₂ (λ b n. o4 ++ text_of (arc_lines b n graph')) eb en' ∙ ap (λ g. o4 ++ text_of (arc_lines r.bits r.names g)) er')
     (e6 ∙ ap (λ b. o5 ++ text_of (end_lines b)) ed)
+    (e7 ∙ ap (λ (m : ModuleValue). o6 ++ text_of (netlist_lines m)) em)
 
 -- the first and the second end of an arc have a name
 pub first_below : (sc : Scenario) (arcs : List (OpId × OpId)) (k i n : ℕ) (d : OpId × OpId) → IsScenario sc → arcs ≡ sc.arcs → k < length arcs → i ≡ (get_or arcs k d).0.0 → sc.count ≡ n → i < n
