@@ -34,6 +34,8 @@ use Rattle.cpog_app.specs.declared.words.Command.TheVariants as command
 use Rattle.cpog_app.specs.Words.{command_of}
 use Rattle.cpog_app.specs.Refusal.{refusal_text}
 use Rattle.cpog_app.specs.Scenarios.{covering_scenario}
+use Rattle.handshake_eqs.specs.Netlists.{IsNetlistOf}
+use Rattle.report_text.proofs.NetlistLemmas.{one_netlist}
 use Rattle.cpog_app.specs.Conditions.{IsOneBitEncoding}
 use Rattle.cpog_app.specs.Synthesis.{scenarios_of, scenario_names_of, IsFirstCyclic, IsBoundOf, IsSynthesis}
 use Rattle.cpog_app.specs.Allowed.{IsReportAnswer, IsCyclicAnswer, IsManyAnswer, IsEmptyAnswer, IsFileAnswer, IsBadLineAnswer, IsPassedAnswer, IsAnswerOfFile, IsTextAnswer, Input, IsAnswerToAll, IsLongAnswer, IsSynthAnswer, IsCommandAnswer}
@@ -115,18 +117,20 @@ one_bound : (n : ℕ) (orders : List Order) (a b : Encoding) (c d : Bound) → l
 one_bound n orders a b (Minimum g) (Minimum i) p q h k = ap Minimum (h.0 ∙ p ∙ sym (k.0 ∙ q))
 
 -- reports of equal parts are equal
-same_report : (a b : ReportValue) → a.bits ≡ b.bits → a.budget ≡ b.budget → a.names ≡ b.names → a.scenario_names ≡ b.scenario_names → a.scenarios ≡ b.scenarios → a.encoding ≡ b.encoding → a.bound ≡ b.bound → a ≡ b
-same_report a b bits budget names scenario_names scenarios encoding bound =
-    λ i. record { bits = bits i; budget = budget i; names = names i; scenario_names = scenario_names i; scenarios = scenarios i; encoding = encoding i; bound = bound i }
+same_report : (a b : ReportValue) → a.bits ≡ b.bits → a.budget ≡ b.budget → a.names ≡ b.names → a.scenario_names ≡ b.scenario_names → a.scenarios ≡ b.scenarios → a.encoding ≡ b.encoding → a.bound ≡ b.bound → a.netlist ≡ b.netlist → a ≡ b
+same_report a b bits budget names scenario_names scenarios encoding bound netlist =
+    λ i. record { bits = bits i; budget = budget i; names = names i; scenario_names = scenario_names i; scenarios = scenarios i; encoding = encoding i; bound = bound i; netlist = netlist i }
 
 -- a file has one report
 one_report : (f : Contents) (a b : ReportValue) → IsSynthesis f a → IsSynthesis f b → a ≡ b
 one_report f a b h k =
     let same : k.orders ≡ h.orders = one_orders (scenarios_of f) k.orders h.orders k.of_scenarios h.of_scenarios in
+    let encoding = one_encoding (length f.operations) h.orders a.encoding b.encoding h.conditions (subst (λ os. IsOneBitEncoding (length f.operations) os b.encoding) same k.conditions) in
     same_report a b (h.bits ∙ sym k.bits) (h.budget ∙ sym k.budget) (h.names ∙ sym k.names) (h.scenario_names ∙ sym k.scenario_names)
     (h.scenarios ∙ sym (ap (λ os. map covering_scenario os) same) ∙ sym k.scenarios)
-    (one_encoding (length f.operations) h.orders a.encoding b.encoding h.conditions (subst (λ os. IsOneBitEncoding (length f.operations) os b.encoding) same k.conditions))
+    encoding
     (one_bound (length f.operations) h.orders a.encoding b.encoding a.bound b.bound (ap length h.conditions.no_gate) (ap length k.conditions.no_gate) h.bound (subst (λ os. IsBoundOf (length f.operations) os b.encoding b.bound) same k.bound))
+    (one_netlist a.encoding a.netlist b.netlist h.report.netlist (subst (λ (e : Encoding). IsNetlistOf e b.netlist) (sym encoding) k.report.netlist))
 
 -- ---- one first cyclic scenario
 

@@ -18,6 +18,7 @@ use Rattle.cpog_defs.specs.declared.types.Bit3.{Bit3}
 use Rattle.cpog_defs.specs.Codes.{bit, AreCodes, KeepGivenBits, open_patterns}
 use Rattle.cpog_defs.specs.Entries.{Agrees, entry_at}
 use Rattle.cpog_defs.specs.Encodings.{Encoding, IsEncoding, Fits}
+use Rattle.handshake_eqs.specs.Netlists.{Netlist, IsNetlistOf}
 use Rattle.line_text.specs.Words.{is_free_name}
 use Rattle.pg_algebra.specs.Meaning.{graph_of}
 use Rattle.pg_text.specs.declared.statement.Statement.{Statement}
@@ -192,9 +193,9 @@ module _ (f : Contents) (orders : List Order) (z : AreOrdersOf (scenarios_of f) 
   orders_alike = subst (λ n. All (IsOrderOf n) orders) (sym same_count) orders_are
 
   -- the report of a lawful file is lawful
-  pub report_is_lawful : IsFile f → (e : Encoding) → IsOneBitEncoding (count_of orders) orders e → AreCodes 1 (length orders) e.codes →
-      IsReport (record { bits = 1; budget = 2000000; names = f.operations; scenario_names = scenario_names_of f; scenarios = map covering_scenario orders; encoding = e; bound = Minimum 0 })
-  report_is_lawful file e is codes =
+  pub report_is_lawful : IsFile f → (e : Encoding) → IsOneBitEncoding (count_of orders) orders e → AreCodes 1 (length orders) e.codes → (n : Netlist) → IsNetlistOf e n →
+      IsReport (record { bits = 1; budget = 2000000; names = f.operations; scenario_names = scenario_names_of f; scenarios = map covering_scenario orders; encoding = e; bound = Minimum 0; netlist = n })
+  report_is_lawful file e is codes n equations =
       let covering : length (map covering_scenario orders) ≡ length f.statements = length-map orders covering_scenario ∙ orders_each in
       let names : length (scenario_names_of f) ≡ length f.statements = length-map f.statements _ in
       let no_gate : length e.gates.gates ≡ 0 = ap length is.no_gate in
@@ -216,16 +217,17 @@ module _ (f : Contents) (orders : List Order) (z : AreOrdersOf (scenarios_of f) 
         few_gates = omega (arith, no_gate);
         encoding = subst (λ n. IsEncoding n e) same_count is.encoding;
         bound = refl;
+        netlist = equations;
       }
     where
       named : (s : Statement) → IsStatementOver (length f.operations) s → IsTrue (is_free_name (name_of s))
       named (statement.Scenario name x) h = h.0
 
   -- and is its synthesis
-  pub report_is_synthesis : IsFile f → length f.statements ≤ 2 → (e : Encoding) → IsOneBitEncoding (count_of orders) orders e → AreCodes 1 (length orders) e.codes → Fits e orders →
-      IsSynthesis f (record { bits = 1; budget = 2000000; names = f.operations; scenario_names = scenario_names_of f; scenarios = map covering_scenario orders; encoding = e; bound = Minimum 0 })
-  report_is_synthesis file few e is codes fits = record {
-    report = report_is_lawful file e is codes;
+  pub report_is_synthesis : IsFile f → length f.statements ≤ 2 → (e : Encoding) → IsOneBitEncoding (count_of orders) orders e → AreCodes 1 (length orders) e.codes → Fits e orders → (n : Netlist) → IsNetlistOf e n →
+      IsSynthesis f (record { bits = 1; budget = 2000000; names = f.operations; scenario_names = scenario_names_of f; scenarios = map covering_scenario orders; encoding = e; bound = Minimum 0; netlist = n })
+  report_is_synthesis file few e is codes fits n equations = record {
+    report = report_is_lawful file e is codes n equations;
     bits = refl;
     budget = refl;
     names = refl;

@@ -21,14 +21,16 @@ use Rattle.cpog_app.specs.declared.words.Command.TheVariants as command
 use Rattle.cpog_app.specs.Words.{command_of}
 use Rattle.cpog_app.specs.Refusal.{refusal_text}
 use Rattle.cpog_app.specs.Synthesis.{scenarios_of, scenario_names_of, IsFirstCyclic, IsSynthesis}
+use Rattle.cpog_app.specs.Printed.{PrintsController}
 
 -- ---- what is printed for a file
 
--- the text of its report
+-- the text of its report, which ends with a controller of its scenarios under the printed codes
 pub record IsReportAnswer (f : Contents) (output : List ℕ) : Type 0 where
   pub report : ReportValue
   pub synthesis : IsSynthesis f report
   pub output_is : output ≡ text_of (report_lines report)
+  pub controller : PrintsController f.operations synthesis.orders report.encoding.codes output
 
 -- the first scenario that has an operation before itself, and its least such operation
 pub record IsCyclicAnswer (f : Contents) (output : List ℕ) : Type 0 where

@@ -4,5 +4,6 @@ pub mod Scenarios
 pub mod Conditions
 pub mod Synthesis
 pub mod Faults
+pub mod Printed
 pub mod Allowed
 pub mod Laws

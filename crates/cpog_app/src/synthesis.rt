@@ -9,6 +9,8 @@ use crate::conditions::one_bit_encoding;
 use crate::fault::OrderFault;
 use crate::scenarios::{covering_scenario, scenario};
 use cpog_base::{Memory, Name, Order, ScenId, Scenario};
+use handshake_eqs::equations;
+use netlist_verilog::Module;
 use pg_algebra::Expr;
 use pg_text::{File, Statement};
 use report_text::{Bound, Report};
@@ -98,14 +100,15 @@ pub(crate) fn report_of(alloc: Global, file: File, orders: &[Order]) -> Result<R
     let names = scenario_names(alloc, &file)?;
     let scenarios = covering_scenarios(alloc, orders)?;
     let encoding = one_bit_encoding(alloc, orders)?;
-    let operations = file.into_operations();
+    let netlist = equations(alloc, &encoding)?;
+    let design = Module::new(file.into_operations(), netlist);
     Ok(Report::new(
         1,
         BUDGET,
-        operations,
         names,
         scenarios,
         encoding,
         Bound::Minimum(0),
+        design,
     ))
 }

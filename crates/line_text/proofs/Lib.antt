@@ -1,2 +1,3 @@
 pub mod SplittingLemmas
 pub mod TellingLemmas
+pub mod FeedLemmas

@@ -14,6 +14,7 @@ use Rattle.cpog_defs.specs.Gates.{IsRefOver, signal_count}
 use Rattle.gate_core.proofs.GateLemmas.{gate_reads}
 use Rattle.handshake_eqs.specs.Netlists.{Netlist, condition_of, wire_of, waits_of, IsWireOver}
 use Rattle.line_text.specs.Words.{continues_name}
+use Rattle.line_text.proofs.FeedLemmas.{NoFeed, is_clean, joined_free, passes_free, clean_free, clean_front, decimal_free}
 use Rattle.line_text.proofs.TellingLemmas.{AllPass, apart, decimal_continues, free_name_passes}
 use Rattle.netlist_verilog.specs.Module.{ModuleValue, IsModule, AreNames}
 use Rattle.netlist_verilog.specs.Wires.{Wire, Signal, Go, Acknowledge, Request, Done, Idle, Condition, ArcCondition, name_of, signal_text, wire_text}
@@ -21,35 +22,6 @@ use Rattle.netlist_verilog.specs.Formulas.{Formula, Bit, Read, Not, And, Xor, Or
 use Rattle.netlist_verilog.specs.Equations.{gate_formula, table_formula, reads_both, gate_at, gate_equation, gate_equations, ref_formula, condition_equation, arc_equation, arc_equations_from, and_each, through_formula, arc_formula, request_equation, equations}
 use Rattle.netlist_verilog.specs.Rows.{separator, joined, wire_texts, signals_from, for_each, input_wires, output_wires, arc_wire, arc_wires_from, arc_wires, inner_wires, wire_lines, equation_lines, module_lines}
 use Rattle.netlist_verilog.proofs.ValueLemmas.{parts_joined, parts_below}
-
--- no byte is a line feed
-abbrev pub NoFeed : List ℕ → Type 0
-NoFeed line = AllByRecursion (λ b. b ≢ 10) line
-
-joined_free : (x y : List ℕ) → NoFeed x → NoFeed y → NoFeed (x ++ y)
-joined_free x y hx hy = parts_joined (λ b. b ≢ 10) x y hx hy
-
--- bytes of names are no line feeds
-pub passes_free : (w : List ℕ) → AllPass continues_name w → NoFeed w
-passes_free [] h = tt
-passes_free (b ∷ bs) h = ((λ e. apart (continues_name b) (continues_name 10) h.0 refl (ap continues_name e)), passes_free bs h.1)
-
--- whether no byte is a line feed
-abbrev is_clean : List ℕ → Bool
-is_clean [] = true
-is_clean (b ∷ bs) = not (eqb b 10) && is_clean bs
-
-clean_free : (w : List ℕ) → is_clean w ≡ true → NoFeed w
-clean_free [] h = tt
-clean_free (b ∷ bs) h =
-    let t = and_parts (not (eqb b 10)) (is_clean bs) h in
-    ((λ e. apart (not (eqb b 10)) (not true) t.0 refl (ap not (eq-eqb b 10 e))), clean_free bs t.1)
-
-front : (w x : List ℕ) → is_clean w ≡ true → NoFeed x → NoFeed (w ++ x)
-front w x h hx = joined_free w x (clean_free w h) hx
-
-decimal_free : (n : ℕ) → n < 2 ^ 64 → NoFeed (decimal n)
-decimal_free n lt = passes_free (decimal n) (decimal_continues n lt)
 
 -- ---- names
 
@@ -94,35 +66,35 @@ signal_free : (inputs n : ℕ) → n < 2 ^ 64 → NoFeed (signal_text inputs n)
 signal_free inputs n lt = chosen (nat_lt n inputs)
   where
     chosen : (b : Bool) → NoFeed (cond b (codes "x" ++ decimal n) (codes "g" ++ decimal (n - inputs)))
-    chosen true = front (codes "x") (decimal n) refl (decimal_free n lt)
-    chosen false = front (codes "g") (decimal (n - inputs)) refl (decimal_free (n - inputs) (omega arith))
+    chosen true = clean_front (codes "x") (decimal n) refl (decimal_free n lt)
+    chosen false = clean_front (codes "g") (decimal (n - inputs)) refl (decimal_free (n - inputs) (omega arith))
 
 wire_free : (inputs : ℕ) (names : List (List ℕ)) → ((v : ℕ) → NoFeed (name_of names v)) → (w : Wire) → IsSmallWire w → NoFeed (wire_text inputs names w)
 wire_free inputs names free (Signal n) h = signal_free inputs n h
 wire_free inputs names free Go h = clean_free (codes "go") refl
-wire_free inputs names free (Acknowledge v) h = front (codes "a_") (name_of names v) refl (free v)
-wire_free inputs names free (Request v) h = front (codes "r_") (name_of names v) refl (free v)
+wire_free inputs names free (Acknowledge v) h = clean_front (codes "a_") (name_of names v) refl (free v)
+wire_free inputs names free (Request v) h = clean_front (codes "r_") (name_of names v) refl (free v)
 wire_free inputs names free Done h = clean_free (codes "done") refl
 wire_free inputs names free Idle h = clean_free (codes "idle") refl
-wire_free inputs names free (Condition v) h = front (codes "c_") (name_of names v) refl (free v)
+wire_free inputs names free (Condition v) h = clean_front (codes "c_") (name_of names v) refl (free v)
 wire_free inputs names free (ArcCondition u v) h =
-    front (codes "e") (decimal u ++ (codes "_" ++ decimal v)) refl (joined_free (decimal u) (codes "_" ++ decimal v) (decimal_free u h.0) (front (codes "_") (decimal v) refl (decimal_free v h.1)))
+    clean_front (codes "e") (decimal u ++ (codes "_" ++ decimal v)) refl (joined_free (decimal u) (codes "_" ++ decimal v) (decimal_free u h.0) (clean_front (codes "_") (decimal v) refl (decimal_free v h.1)))
 
 grouped_free : (least tight : ℕ) (t : List ℕ) → NoFeed t → NoFeed (grouped least tight t)
 grouped_free least tight t h = chosen (nat_lt tight least)
   where
     chosen : (b : Bool) → NoFeed (cond b (codes "(" ++ (t ++ codes ")")) t)
-    chosen true = front (codes "(") (t ++ codes ")") refl (joined_free t (codes ")") h (clean_free (codes ")") refl))
+    chosen true = clean_front (codes "(") (t ++ codes ")") refl (joined_free t (codes ")") h (clean_free (codes ")") refl))
     chosen false = h
 
 infix_free : (op x y : List ℕ) → is_clean op ≡ true → NoFeed x → NoFeed y → NoFeed (x ++ (op ++ y))
-infix_free op x y h hx hy = joined_free x (op ++ y) hx (front op y h hy)
+infix_free op x y h hx hy = joined_free x (op ++ y) hx (clean_front op y h hy)
 
 formula_free : (inputs : ℕ) (names : List (List ℕ)) → ((v : ℕ) → NoFeed (name_of names v)) → (f : Formula) → IsSmall f → NoFeed (formula_text inputs names f)
 formula_free inputs names free (Bit false) h = clean_free (codes "1'b0") refl
 formula_free inputs names free (Bit true) h = clean_free (codes "1'b1") refl
 formula_free inputs names free (Read w) h = wire_free inputs names free w h
-formula_free inputs names free (Not f) h = front (codes "~") _ refl (grouped_free 3 (tightness f) (formula_text inputs names f) (formula_free inputs names free f h))
+formula_free inputs names free (Not f) h = clean_front (codes "~") _ refl (grouped_free 3 (tightness f) (formula_text inputs names f) (formula_free inputs names free f h))
 formula_free inputs names free (And f g) h =
     infix_free (codes " & ") _ _ refl (grouped_free 2 (tightness f) (formula_text inputs names f) (formula_free inputs names free f h.0)) (grouped_free 3 (tightness g) (formula_text inputs names g) (formula_free inputs names free g h.1))
 formula_free inputs names free (Xor f g) h =
@@ -133,11 +105,11 @@ formula_free inputs names free (Or f g) h =
 comment_free : (inputs : ℕ) (names : List (List ℕ)) → ((v : ℕ) → NoFeed (name_of names v)) → (c : Option (Wire × Wire)) → IsSmallComment c → NoFeed (comment_text inputs names c)
 comment_free inputs names free None h = tt
 comment_free inputs names free (Some both) h =
-    front (codes " /* ") _ refl (joined_free _ _ (wire_free inputs names free both.0 h.0) (front (codes " ") _ refl (joined_free _ (codes " */") (wire_free inputs names free both.1 h.1) (clean_free (codes " */") refl))))
+    clean_front (codes " /* ") _ refl (joined_free _ _ (wire_free inputs names free both.0 h.0) (clean_front (codes " ") _ refl (joined_free _ (codes " */") (wire_free inputs names free both.1 h.1) (clean_free (codes " */") refl))))
 
 row_free : (inputs : ℕ) (names : List (List ℕ)) → ((v : ℕ) → NoFeed (name_of names v)) → (e : Equation) → IsSmallEquation e → NoFeed (equation_row inputs names e)
 row_free inputs names free e h =
-    front (codes "  assign ") _ refl (joined_free _ _ (wire_free inputs names free e.wire h.wire) (front (codes " = ") _ refl
+    clean_front (codes "  assign ") _ refl (joined_free _ _ (wire_free inputs names free e.wire h.wire) (clean_front (codes " = ") _ refl
     (joined_free _ _ (formula_free inputs names free e.formula h.formula) (joined_free _ (codes ";") (comment_free inputs names free e.comment h.comment) (clean_free (codes ";") refl)))))
 
 -- ---- the equations of a module
@@ -267,18 +239,18 @@ inner_free m is f =
 
 declared_free : (ts : List (List ℕ)) → AllByRecursion NoFeed ts → AllByRecursion NoFeed (wire_lines ts)
 declared_free [] h = tt
-declared_free (t ∷ ts) h = (front (codes "  wire ") _ refl (joined_free _ (codes ";") (list_free true (t ∷ ts) h) (clean_free (codes ";") refl)), tt)
+declared_free (t ∷ ts) h = (clean_front (codes "  wire ") _ refl (joined_free _ (codes ";") (list_free true (t ∷ ts) h) (clean_free (codes ";") refl)), tt)
 
 pub lines_free : (m : ModuleValue) → IsModule m → AllByRecursion NoFeed (module_lines m)
 lines_free m is =
     let f = fit m is in
     let ins = inputs_free m is f in
     let outs = outputs_free m f in (
-      front (codes "module cpog(") _ refl (joined_free _ _ ins (front (codes ", ") _ refl (joined_free _ (codes ");") outs (clean_free (codes ");") refl)))),
+      clean_front (codes "module cpog(") _ refl (joined_free _ _ ins (clean_front (codes ", ") _ refl (joined_free _ (codes ");") outs (clean_free (codes ");") refl)))),
       (
-        front (codes "  input ") _ refl (joined_free _ (codes ";") ins (clean_free (codes ";") refl)),
+        clean_front (codes "  input ") _ refl (joined_free _ (codes ";") ins (clean_free (codes ";") refl)),
         (
-          front (codes "  output ") _ refl (joined_free _ (codes ";") outs (clean_free (codes ";") refl)),
+          clean_front (codes "  output ") _ refl (joined_free _ (codes ";") outs (clean_free (codes ";") refl)),
           parts_joined NoFeed (wire_lines (wire_texts m (inner_wires m.netlist))) _ (declared_free _ (inner_free m is f))
               (parts_joined NoFeed (equation_lines m) (codes "endmodule" ∷ [])
               (mapped IsSmallEquation NoFeed (equation_row m.netlist.gates.inputs m.names) (λ e h. row_free m.netlist.gates.inputs m.names f.names e h) (equations m.netlist) (equations_small m is f))

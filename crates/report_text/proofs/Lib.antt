@@ -5,3 +5,5 @@ pub mod RowLemmas
 pub mod ScenarioLemmas
 pub mod NetlistLemmas
 pub mod LawLemmas
+pub mod FrontLemmas
+pub mod ModuleLemmas

@@ -110,7 +110,7 @@ entry_fits n signals u v (Const false) hu hv h = tt
 entry_fits n signals u v (Const true) hu hv h = ((hu, (hv, tt)), tt)
 entry_fits n signals u v (Signal m negated) hu hv h = ((hu, (hv, h)), tt)
 
-ref_over : (n signals : ℕ) (graph : ConditionalGraph) (u v : ℕ) → IsGraph n signals graph → u < n → v < n → IsRefOver signals (arc_ref graph u v)
+pub ref_over : (n signals : ℕ) (graph : ConditionalGraph) (u v : ℕ) → IsGraph n signals graph → u < n → v < n → IsRefOver signals (arc_ref graph u v)
 ref_over n signals graph u v is hu hv = elim (cases_eq u v) [
   | inl e ↦ subst (IsRefOver signals) (sym (ap (arc_ref graph u) (sym e) ∙ is.diagonal u)) tt
   | inr ne ↦ is.over (Arc (record { 0 = u }) (record { 0 = v })) (hu, hv, ne)

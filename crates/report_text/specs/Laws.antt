@@ -1,9 +1,21 @@
 -- What is proved of reports.
-use Rattle.std.specs.Prelude.{◌≡◌}
-use Rattle.line_text.specs.Lines.{text_of}
-use Rattle.report_text.specs.Report.{ReportValue, IsReport}
-use Rattle.report_text.specs.Rows.{report_lines}
+use Rattle.std.specs.Prelude.{◌≡◌, ◌≢◌, ℕ, List, ◌++◌, codes}
+use Rattle.std.specs.List.{AllByRecursion}
+use Rattle.line_text.specs.Lines.{lines_of, text_of}
+use Rattle.netlist_verilog.specs.Module.{ModuleValue}
+use Rattle.report_text.specs.Report.{ReportValue, IsReport, module_of}
+use Rattle.report_text.specs.Rows.{netlist_lines, report_lines}
 
 -- two reports with the same text are one
 abbrev pub TextTellsReport : Type 0
 TextTellsReport = (a b : ReportValue) → IsReport a → IsReport b → text_of (report_lines a) ≡ text_of (report_lines b) → a ≡ b
+
+-- the lines from the first that is `netlist` on are that line and the module's
+pub record EndsWithModule (text : List ℕ) (m : ModuleValue) : Type 0 where
+  pub front : List (List ℕ)
+  pub before : AllByRecursion (λ line. line ≢ codes "netlist") front
+  pub whole : lines_of text ≡ front ++ netlist_lines m
+
+-- a report's text ends with its module
+abbrev pub ModuleEndsReport : Type 0
+ModuleEndsReport = (r : ReportValue) → IsReport r → EndsWithModule (text_of (report_lines r)) (module_of r)

@@ -1,6 +1,12 @@
-ghost use Rattle.report_text.specs.Laws.{TextTellsReport};
+//! What is promised of reports.
+ghost use Rattle.report_text.specs.Laws.{TextTellsReport, ModuleEndsReport};
 
 /// Two reports with the same text are the same report.
 pub fn text_tells_report()
     ensures { TextTellsReport }
+{}
+
+/// What stands in a report's text behind its line `netlist` is its module, to the end.
+pub fn module_ends_report()
+    ensures { ModuleEndsReport }
 {}

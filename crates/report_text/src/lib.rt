@@ -14,6 +14,6 @@ mod signals;
 mod writing;
 
 pub use bound::Bound;
-pub use laws::text_tells_report;
+pub use laws::{module_ends_report, text_tells_report};
 pub use report::Report;
 pub use writing::write_report;

@@ -1,8 +1,8 @@
-use Rattle.std.proofs.Common.{◌≡◌, ℕ, length, subst, sym, ap, arith}
+use Rattle.std.proofs.Common.{◌≡◌, ℕ, length, subst, sym, ap, ◌∙◌, arith}
 use Rattle.pg_text.specs.Text.{IsFile}
 use Rattle.report_text.specs.Report.{IsReport}
 use Rattle.cpog_app.specs.Synthesis.{IsSynthesis}
-use Rattle.cpog_app.proofs.ReportLemmas.{orders_each, orders_alike, report_is_lawful, report_is_synthesis}
+use Rattle.cpog_app.proofs.ReportLemmas.{orders_each, orders_alike, same_count, report_is_lawful, report_is_synthesis}
 use Rattle.cpog_app.proofs.synthesis.report_of.Goals as goal
 
 pub one_bit_encoding-requires-clause-some : goal.one_bit_encoding-requires-clause-some
@@ -14,12 +14,18 @@ one_bit_encoding-requires-clause-few c = omega (arith, orders_each c.args.file c
 pub one_bit_encoding-requires-clause-alike : goal.one_bit_encoding-requires-clause-alike
 one_bit_encoding-requires-clause-alike c = orders_alike c.args.file c.args.orders.now c.requires.orders c.requires.some
 
+pub new-design-requires-clause-one_name_each : goal.new-design-requires-clause-one_name_each
+new-design-requires-clause-one_name_each c =
+    let conditions : length c.in_ok-netlist.netlist.conditions ≡ length c.in_ok-encoding.encoding.graph.ops = ap length c.in_ok-netlist.ensures.netlist.conditions in
+    ap length c.into_operations.ensures
+    ∙ sym (conditions ∙ c.in_ok-encoding.ensures.encoding.encoding.graph.ops ∙ same_count c.args.file c.args.orders.now c.requires.orders c.requires.some)
+
 pub new-requires : goal.new-requires
 new-requires c =
     let file : IsFile c.args.file = subst IsFile c.file.view_is c.file.invariant in
-    rw (c.in_ok-names.ensures, c.in_ok-scenarios.ensures, c.into_operations-operations.ensures) (report_is_lawful c.args.file c.args.orders.now c.requires.orders c.requires.some file c.in_ok-encoding.encoding c.in_ok-encoding.ensures.encoding c.in_ok-encoding.ensures.codes)
+    rw (c.in_ok-names.ensures, c.in_ok-scenarios.ensures, c.new-design.ensures, c.into_operations.ensures) (report_is_lawful c.args.file c.args.orders.now c.requires.orders c.requires.some file c.in_ok-encoding.encoding c.in_ok-encoding.ensures.encoding c.in_ok-encoding.ensures.codes c.in_ok-netlist.netlist c.in_ok-netlist.ensures.netlist)
 
 pub returns : goal.returns
 returns c =
     let file : IsFile c.args.file = subst IsFile c.file.view_is c.file.invariant in
-    rw (c.new.ensures, c.in_ok-names.ensures, c.in_ok-scenarios.ensures, c.into_operations-operations.ensures) (report_is_synthesis c.args.file c.args.orders.now c.requires.orders c.requires.some file c.requires.few c.in_ok-encoding.encoding c.in_ok-encoding.ensures.encoding c.in_ok-encoding.ensures.codes c.in_ok-encoding.ensures.fits)
+    rw (c.new.ensures, c.in_ok-names.ensures, c.in_ok-scenarios.ensures, c.new-design.ensures, c.into_operations.ensures) (report_is_synthesis c.args.file c.args.orders.now c.requires.orders c.requires.some file c.requires.few c.in_ok-encoding.encoding c.in_ok-encoding.ensures.encoding c.in_ok-encoding.ensures.codes c.in_ok-encoding.ensures.fits c.in_ok-netlist.netlist c.in_ok-netlist.ensures.netlist)
