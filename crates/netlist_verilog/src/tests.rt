@@ -2,7 +2,7 @@
 
 use crate::{Module, write_module};
 use cpog_base::{Memory, Names, OpId};
-use gate_core::{GateList, Ref};
+use gate_core::{Gate, GateList, Ref};
 use handshake_eqs::Netlist;
 use std::alloc::Global;
 
@@ -72,4 +72,47 @@ fn two_branches_are_printed(rt: HostRuntime) {
 endmodule
 ";
     assert!(rt; text.as_slice() == want.as_slice());
+}
+
+#[test]
+fn each_function_of_a_gate_has_its_text(rt: HostRuntime) -> Result<(), Memory> {
+    // From the right to the left, a table has the values at 00, 01, 10 and 11.
+    for (table, function) in [
+        (0b0000, "1'b0 /* x0 x1 */"),
+        (0b1000, "x0 & x1"),
+        (0b0100, "x0 & ~x1"),
+        (0b1100, "x0 /* x0 x1 */"),
+        (0b0010, "~x0 & x1"),
+        (0b1010, "x1 /* x0 x1 */"),
+        (0b0110, "x0 ^ x1"),
+        (0b1110, "x0 | x1"),
+        (0b0001, "~x0 & ~x1"),
+        (0b1001, "x0 ^ ~x1"),
+        (0b0101, "~x1 /* x0 x1 */"),
+        (0b1101, "x0 | ~x1"),
+        (0b0011, "~x0 /* x0 x1 */"),
+        (0b1011, "~x0 | x1"),
+        (0b0111, "~x0 | ~x1"),
+        (0b1111, "1'b1 /* x0 x1 */"),
+    ] {
+        assert!(rt; table < 16);
+        let mut gates = GateList::new(rt.alloc(), 2);
+        gates.push(Gate { j: 0, k: 1, table })?;
+        let netlist = Netlist::new(rt.alloc(), gates, 0)?;
+        let module = Module::new(Names::new(rt.alloc()), netlist);
+        let text = write_module(rt.alloc(), &module)?;
+        let want = format!(in rt.alloc();
+            "module cpog(x0, x1, go, done, idle);
+  input x0, x1, go;
+  output done, idle;
+  wire g0;
+  assign g0 = {function};
+  assign done = go;
+  assign idle = ~go;
+endmodule
+"
+        )?;
+        assert!(rt; text.as_slice() == want.as_bytes(), "at {table}");
+    }
+    Ok(())
 }
