@@ -1,5 +1,5 @@
 -- No line of a module holds a line feed.
-use Rattle.std.proofs.Common.{◌≡◌, ◌≢◌, ℕ, zero, suc, ◌+◌, ◌-◌, ◌^◌, ◌<◌, ◌≤◌, Bool, true, false, cond, eqb, eq-eqb, not, ◌&&◌, List, [], ◌∷◌, ◌++◌, map, length, get_or, refl, ap, arith, Option, None, Some}
+use Rattle.std.proofs.Common.{◌≡◌, ◌≢◌, ℕ, zero, suc, ◌+◌, ◌-◌, ◌^◌, ◌<◌, ◌≤◌, Bool, true, false, cond, eqb, eq-eqb, not, ◌&&◌, List, [], ◌∷◌, ◌++◌, length, get_or, refl, ap, arith, Option, None, Some}
 use Rattle.std.specs.Prelude.{codes, nat_lt}
 use Rattle.std.specs.List.{AllByRecursion}
 use Rattle.std.specs.Fmt.{decimal}
@@ -22,6 +22,7 @@ use Rattle.netlist_verilog.specs.Formulas.{Formula, Bit, Read, Not, And, Xor, Or
 use Rattle.netlist_verilog.specs.Equations.{gate_formula, table_formula, reads_both, gate_at, gate_equation, gate_equations, ref_formula, condition_equation, arc_equation, arc_equations_from, and_each, through_formula, arc_formula, request_equation, equations}
 use Rattle.netlist_verilog.specs.Rows.{separator, joined, wire_texts, signals_from, for_each, input_wires, output_wires, arc_wire, arc_wires_from, arc_wires, inner_wires, wire_lines, equation_lines, module_lines}
 use Rattle.netlist_verilog.proofs.ValueLemmas.{parts_joined, parts_below}
+use Rattle.netlist_verilog.proofs.BelowLemmas.{mapped}
 
 -- ---- names
 
@@ -195,10 +196,6 @@ equations_small m is f =
     ))))
 
 -- ---- lists of wires
-
-mapped : {X Y : Type 0} (P : X → Type 0) (Q : Y → Type 0) (f : X → Y) → ((x : X) → P x → Q (f x)) → (xs : List X) → AllByRecursion P xs → AllByRecursion Q (map f xs)
-mapped P Q f h [] a = tt
-mapped P Q f h (x ∷ xs) a = (h x a.0, mapped P Q f h xs a.1)
 
 separator_free : (first : Bool) → NoFeed (separator first)
 separator_free true = tt

@@ -1,3 +1,11 @@
 pub mod WritingLemmas
 pub mod ValueLemmas
 pub mod FeedLemmas
+pub mod BelowLemmas
+pub mod WordLemmas
+pub mod GateRowLemmas
+pub mod PortLemmas
+pub mod ConditionRowLemmas
+pub mod RequestRowLemmas
+pub mod RowLemmas
+pub mod LawLemmas

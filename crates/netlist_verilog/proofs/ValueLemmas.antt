@@ -212,16 +212,16 @@ idle_value n i at h =
 
 -- ---- both laws
 
-abbrev condition_part : Netlist → List Equation
+abbrev pub condition_part : Netlist → List Equation
 condition_part n = each_below (λ v. condition_equation v (condition_of n v) ∷ []) (length n.conditions)
 
-abbrev arc_part : Netlist → List Equation
+abbrev pub arc_part : Netlist → List Equation
 arc_part n = each_below (λ u. arc_equations_from n u (length n.conditions)) (length n.conditions)
 
-abbrev request_part : Netlist → List Equation
+abbrev pub request_part : Netlist → List Equation
 request_part n = each_below (λ v. request_equation n v ∷ []) (length n.conditions)
 
-abbrev end_part : Netlist → List Equation
+abbrev pub end_part : Netlist → List Equation
 end_part n = done_equation (length n.conditions) ∷ idle_equation (length n.conditions) ∷ []
 
 pub outputs_settled : (m : ModuleValue) (i : Inputs) (at : Wire → Bool) → IsModule m → IsSettled m.netlist i at → HasOutputs m.netlist i at

@@ -374,7 +374,7 @@ parts_written p w r1 r2 r3 r4 d i e a =
     ∙ ap (λ ls. r1 ++ ls) (append_assoc r2 (r3 ++ (r4 ++ (d ∷ i ∷ []))) (e ∷ [])
     ∙ ap (λ ls. r2 ++ ls) (append_assoc r3 (r4 ++ (d ∷ i ∷ [])) (e ∷ []) ∙ ap (λ ls. r3 ++ ls) (append_assoc r4 (d ∷ i ∷ []) (e ∷ []))))))
 
-rows_split : (m : ModuleValue) (e1 e2 e3 e4 es : List Equation) → equation_rows m (e1 ++ (e2 ++ (e3 ++ (e4 ++ es)))) ≡ equation_rows m e1 ++ (equation_rows m e2 ++ (equation_rows m e3 ++ (equation_rows m e4 ++ equation_rows m es)))
+pub rows_split : (m : ModuleValue) (e1 e2 e3 e4 es : List Equation) → equation_rows m (e1 ++ (e2 ++ (e3 ++ (e4 ++ es)))) ≡ equation_rows m e1 ++ (equation_rows m e2 ++ (equation_rows m e3 ++ (equation_rows m e4 ++ equation_rows m es)))
 rows_split m e1 e2 e3 e4 es =
     map-append _ e1 (e2 ++ (e3 ++ (e4 ++ es)))
     ∙ ap (λ x. equation_rows m e1 ++ x) (map-append _ e2 (e3 ++ (e4 ++ es))

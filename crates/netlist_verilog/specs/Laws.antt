@@ -7,6 +7,7 @@ use Rattle.cpog_defs.specs.Gates.{gate_value}
 use Rattle.handshake_eqs.specs.declared.wires.Inputs.{Inputs}
 use Rattle.handshake_eqs.specs.Netlists.{Netlist}
 use Rattle.handshake_eqs.specs.Agreement.{request, done, idle}
+use Rattle.line_text.specs.Lines.{text_of}
 use Rattle.netlist_verilog.specs.Module.{ModuleValue, IsModule}
 use Rattle.netlist_verilog.specs.Wires.{Wire, Signal, Go, Acknowledge, Request, Done, Idle}
 use Rattle.netlist_verilog.specs.Formulas.{value}
@@ -41,3 +42,7 @@ EquationsSettle = (m : ModuleValue) (i : Inputs) → IsModule m → (at : Wire �
 -- no line of a module holds a line feed
 abbrev pub LinesHoldNoFeed : Type 0
 LinesHoldNoFeed = (m : ModuleValue) → IsModule m → AllByRecursion (λ line. AllByRecursion (λ b. b ≢ 10) line) (module_lines m)
+
+-- two modules with the same text are one
+abbrev pub TextTellsModule : Type 0
+TextTellsModule = (a b : ModuleValue) → IsModule a → IsModule b → text_of (module_lines a) ≡ text_of (module_lines b) → a ≡ b

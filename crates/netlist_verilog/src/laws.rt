@@ -1,4 +1,4 @@
-ghost use Rattle.netlist_verilog.specs.Laws.{FormulasAreTables, EquationsGiveOutputs, EquationsSettle, LinesHoldNoFeed};
+ghost use Rattle.netlist_verilog.specs.Laws.{FormulasAreTables, EquationsGiveOutputs, EquationsSettle, LinesHoldNoFeed, TextTellsModule};
 
 /// The value of a gate's formula is the gate's value by its table.
 pub fn formulas_are_tables()
@@ -18,4 +18,9 @@ pub fn equations_settle()
 /// No line of a module holds a line feed.
 pub fn lines_hold_no_feed()
     ensures { LinesHoldNoFeed }
+{}
+
+/// Two modules with the same text are the same module.
+pub fn text_tells_module()
+    ensures { TextTellsModule }
 {}

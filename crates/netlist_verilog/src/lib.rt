@@ -3,7 +3,8 @@
 //! A module is a netlist with a name for each operation. Its text is a list of lines, `module_lines`: what it
 //! declares, and its equations, each an assignment of a formula to a wire. The formulas have a text and a value, so
 //! what is printed and what it means are one definition. `write_module` is promised to give exactly that text,
-//! and wherever the printed equations hold, the outputs are those that the netlist settles to.
+//! no two modules have the same one, and wherever the printed equations hold, the outputs are those that the
+//! netlist settles to.
 //! Names and lines are those of `line_text`, netlists those of `handshake_eqs`.
 #![tactic(auto)]
 
@@ -16,6 +17,9 @@ mod signal_name;
 mod tests;
 mod writing;
 
-pub use laws::{equations_give_outputs, equations_settle, formulas_are_tables, lines_hold_no_feed};
+pub use laws::{
+    equations_give_outputs, equations_settle, formulas_are_tables, lines_hold_no_feed,
+    text_tells_module,
+};
 pub use module::Module;
 pub use writing::{put_module, write_module};
