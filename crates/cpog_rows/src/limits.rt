@@ -72,7 +72,7 @@ fn sixty_four_operations_are_taken(rt: HostRuntime) -> Result<(), Fail> {
         ending
             .taken
             .as_slice()
-            .ends_with(b"\nminimum 0\nevidence zero\nopen none\n")
+            .ends_with(b" & ~a_v61 & ~a_v62;\nendmodule\n")
     );
     Ok(())
 }
