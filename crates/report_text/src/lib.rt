@@ -11,6 +11,8 @@ mod bound;
 mod laws;
 mod report;
 mod signals;
+#[cfg(test)]
+mod tests;
 mod writing;
 
 pub use bound::Bound;
