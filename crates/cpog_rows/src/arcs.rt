@@ -4,11 +4,78 @@ use crate::running::run;
 use cpog_base::Status;
 use std::test::Fail;
 
-const FREE_ARC: &[u8] =
-    b"cpog report 1\nbits 1\nbudget 2000000\noperations a b c\nscenario A 0\nhas a b c\narcs a>b b>c\nscenario B 1\nhas a c\narcs a>c\ngates 0\nop a 1\nop b !x0\nop c 1\narc a b 1\narc a c 1\narc b c 1\nminimum 0\nevidence zero\nopen none\nnetlist\nmodule cpog(x0, go, a_a, a_b, a_c, r_a, r_b, r_c, done, idle);\n  input x0, go, a_a, a_b, a_c;\n  output r_a, r_b, r_c, done, idle;\n  wire c_a, c_b, c_c, e0_1, e0_2, e1_2;\n  assign c_a = 1'b1;\n  assign c_b = ~x0;\n  assign c_c = 1'b1;\n  assign e0_1 = 1'b1;\n  assign e0_2 = 1'b1;\n  assign e1_2 = 1'b1;\n  assign r_a = go & c_a;\n  assign r_b = go & c_b & (a_a | ~c_a | ~e0_1);\n  assign r_c = go & c_c & (a_a | ~c_a | ~e0_2) & (a_b | ~c_b | ~e1_2);\n  assign done = go & (a_a | ~c_a) & (a_b | ~c_b) & (a_c | ~c_c);\n  assign idle = ~go & ~a_a & ~a_b & ~a_c;\nendmodule\n";
+const FREE_ARC: &[u8] = b"cpog report 1
+bits 1
+budget 2000000
+operations a b c
+scenario A 0
+has a b c
+arcs a>b b>c
+scenario B 1
+has a c
+arcs a>c
+gates 0
+op a 1
+op b !x0
+op c 1
+arc a b 1
+arc a c 1
+arc b c 1
+minimum 0
+evidence zero
+open none
+netlist
+module cpog(x0, go, a_a, a_b, a_c, r_a, r_b, r_c, done, idle);
+  input x0, go, a_a, a_b, a_c;
+  output r_a, r_b, r_c, done, idle;
+  wire c_a, c_b, c_c, e0_1, e0_2, e1_2;
+  assign c_a = 1'b1;
+  assign c_b = ~x0;
+  assign c_c = 1'b1;
+  assign e0_1 = 1'b1;
+  assign e0_2 = 1'b1;
+  assign e1_2 = 1'b1;
+  assign r_a = go & c_a;
+  assign r_b = go & c_b & (a_a | ~c_a | ~e0_1);
+  assign r_c = go & c_c & (a_a | ~c_a | ~e0_2) & (a_b | ~c_b | ~e1_2);
+  assign done = go & (a_a | ~c_a) & (a_b | ~c_b) & (a_c | ~c_c);
+  assign idle = ~go & ~a_a & ~a_b & ~a_c;
+endmodule
+";
 
-const TURNED_ROUND: &[u8] =
-    b"cpog report 1\nbits 1\nbudget 2000000\noperations a b\nscenario A 0\nhas a b\narcs a>b\nscenario B 1\nhas a b\narcs b>a\ngates 0\nop a 1\nop b 1\narc a b !x0\narc b a x0\nminimum 0\nevidence zero\nopen none\nnetlist\nmodule cpog(x0, go, a_a, a_b, r_a, r_b, done, idle);\n  input x0, go, a_a, a_b;\n  output r_a, r_b, done, idle;\n  wire c_a, c_b, e0_1, e1_0;\n  assign c_a = 1'b1;\n  assign c_b = 1'b1;\n  assign e0_1 = ~x0;\n  assign e1_0 = x0;\n  assign r_a = go & c_a & (a_b | ~c_b | ~e1_0);\n  assign r_b = go & c_b & (a_a | ~c_a | ~e0_1);\n  assign done = go & (a_a | ~c_a) & (a_b | ~c_b);\n  assign idle = ~go & ~a_a & ~a_b;\nendmodule\n";
+const TURNED_ROUND: &[u8] = b"cpog report 1
+bits 1
+budget 2000000
+operations a b
+scenario A 0
+has a b
+arcs a>b
+scenario B 1
+has a b
+arcs b>a
+gates 0
+op a 1
+op b 1
+arc a b !x0
+arc b a x0
+minimum 0
+evidence zero
+open none
+netlist
+module cpog(x0, go, a_a, a_b, r_a, r_b, done, idle);
+  input x0, go, a_a, a_b;
+  output r_a, r_b, done, idle;
+  wire c_a, c_b, e0_1, e1_0;
+  assign c_a = 1'b1;
+  assign c_b = 1'b1;
+  assign e0_1 = ~x0;
+  assign e1_0 = x0;
+  assign r_a = go & c_a & (a_b | ~c_b | ~e1_0);
+  assign r_b = go & c_b & (a_a | ~c_a | ~e0_1);
+  assign done = go & (a_a | ~c_a) & (a_b | ~c_b);
+  assign idle = ~go & ~a_a & ~a_b;
+endmodule
+";
 
 #[test]
 fn arcs_of_scenarios(rt: HostRuntime) -> Result<(), Fail> {

@@ -4,7 +4,6 @@ pub mod WordLemmas
 pub mod RowLemmas
 pub mod ScenarioLemmas
 pub mod NetlistLemmas
-pub mod SampleLemmas
 pub mod LawLemmas
 pub mod FrontLemmas
 pub mod ModuleLemmas

@@ -11,8 +11,6 @@ mod bound;
 mod laws;
 mod report;
 mod signals;
-#[cfg(test)]
-mod tests;
 mod writing;
 
 pub use bound::Bound;
