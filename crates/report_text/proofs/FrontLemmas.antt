@@ -80,20 +80,28 @@ module _ (r : ReportValue) (is : IsReport r) where
   names_free = blanks_free r.names (recursion_from_All NoFeed r.names (λ k d lt. passes_free (get_or r.names k d) (free_name_passes (get_or r.names k d) (is.names k d lt))))
 
   pub head_front : AllByRecursion IsFrontLine (head_lines r)
-  head_front =
-      (front_line (codes "cpog report 1") [] refl tt,
-      (front_line (codes "bits ") (decimal r.bits) refl (decimal_free r.bits (omega (arith, is.few_bits))),
-      (front_line (codes "budget ") (decimal r.budget) refl (decimal_free r.budget (omega (arith, is.few_budget))),
-      (front_line (codes "operations") (blank_names r.names) refl names_free, tt))))
+  head_front = (
+    front_line (codes "cpog report 1") [] refl tt,
+    (
+      front_line (codes "bits ") (decimal r.bits) refl (decimal_free r.bits (omega (arith, is.few_bits))),
+      (
+        front_line (codes "budget ") (decimal r.budget) refl (decimal_free r.budget (omega (arith, is.few_budget))),
+        (front_line (codes "operations") (blank_names r.names) refl names_free, tt),
+      ),
+    ),
+  )
 
   arc_free : (arc : OpId × OpId) → NoFeed (arc_text r.names arc)
   arc_free arc = joined_free (name_of r.names arc.0.0) (codes ">" ++ name_of r.names arc.1.0) (operation_free arc.0.0) (clean_front (codes ">") (name_of r.names arc.1.0) refl (operation_free arc.1.0))
 
   pub scenario_front : (s : ℕ) → AllByRecursion IsFrontLine (scenario_lines r s)
-  scenario_front s =
-      (front_line (codes "scenario ") _ refl (joined_free (name_of r.scenario_names s) _ (word_free r.scenario_names s is.scenario_names) (clean_front (codes " ") _ refl (digits_free r.bits (slice_index r.encoding.codes s)))),
-      (front_line (codes "has") _ refl (blanks_free _ (mapped_free (name_of r.names) operation_free _)),
-      (front_line (codes "arcs") _ refl (blanks_free _ (mapped_free (arc_text r.names) arc_free _)), tt)))
+  scenario_front s = (
+    front_line (codes "scenario ") _ refl (joined_free (name_of r.scenario_names s) _ (word_free r.scenario_names s is.scenario_names) (clean_front (codes " ") _ refl (digits_free r.bits (slice_index r.encoding.codes s)))),
+    (
+      front_line (codes "has") _ refl (blanks_free _ (mapped_free (name_of r.names) operation_free _)),
+      (front_line (codes "arcs") _ refl (blanks_free _ (mapped_free (arc_text r.names) arc_free _)), tt),
+    ),
+  )
 
   signals_fit : signal_count r.encoding.gates ≤ 2 ^ 64
   signals_fit = omega (arith, is.inputs, is.few_bits, is.few_gates)
@@ -132,10 +140,13 @@ module _ (r : ReportValue) (is : IsReport r) where
   end_front = of_bound r.bound is.bound
     where
       of_bound : (b : Bound) → IsBound b → AllByRecursion IsFrontLine (end_lines b)
-      of_bound (Minimum h) zero =
-          (front_line (codes "minimum ") (decimal h) refl (decimal_free h (omega (arith, zero))),
-          (front_line (codes "evidence zero") [] refl tt,
-          (front_line (codes "open none") [] refl tt, tt)))
+      of_bound (Minimum h) zero = (
+        front_line (codes "minimum ") (decimal h) refl (decimal_free h (omega (arith, zero))),
+        (
+          front_line (codes "evidence zero") [] refl tt,
+          (front_line (codes "open none") [] refl tt, tt),
+        ),
+      )
 
   pub gates_line_front : IsFrontLine (gates_row (length r.encoding.gates.gates))
   gates_line_front = front_line (codes "gates ") _ refl (decimal_free (length r.encoding.gates.gates) (omega (arith, is.few_gates)))
