@@ -25,7 +25,7 @@ abbrev shape_text : ℕ → List (List ℕ) → Shape → List ℕ
 shape_text inputs names (Alone r p q) = ref_text inputs names r ++ (codes " /* " ++ (signal_text inputs p ++ (codes " " ++ (signal_text inputs q ++ codes " */;"))))
 shape_text inputs names (Joined op r s) = ref_text inputs names r ++ (32 ∷ op ∷ 32 ∷ (ref_text inputs names s ++ codes ";"))
 
--- no operator begins a comment
+-- no operator is the slash (47) with which a comment begins
 abbrev FitsShape : ℕ → Shape → Type 0
 FitsShape signals (Alone r p q) = IsRefOver signals r × (p < signals) × (q < signals)
 FitsShape signals (Joined op r s) = (eqb op 47 ≡ false) × IsRefOver signals r × IsRefOver signals s

@@ -17,6 +17,7 @@ use Rattle.netlist_verilog.proofs.WordLemmas.{signal_cases}
 
 -- ---- the line of the wires
 
+-- a line of wires has its w (119) where the later lines have another letter
 abbrev declares_wires : List ℕ → Bool
 declares_wires line = eqb (get_or line 2 0) 119
 
@@ -43,7 +44,7 @@ lines_told a b e =
 
 -- ---- the lines of the equations
 
--- whether the wire of an equation's line begins with this byte
+-- whether the wire of an equation's line begins with this byte: c is 99, e is 101, g is 103, and r is 114
 abbrev assigns : ℕ → List ℕ → Bool
 assigns c line = eqb (get_or line 9 0) c
 
