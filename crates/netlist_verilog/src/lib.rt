@@ -22,4 +22,5 @@ pub use laws::{
     text_tells_module,
 };
 pub use module::Module;
+pub use signal_name::SignalName;
 pub use writing::{put_module, write_module};

@@ -3,11 +3,11 @@ ghost use Rattle.netlist_verilog.specs.Wires.{signal_text};
 
 use std::fmt;
 
-/// A signal over so many inputs, which is printed by its name.
+/// A signal over so many inputs, which is printed by its name: the inputs are `x0`, `x1` and on, and the gates `g0`, `g1` and on.
 #[derive(Drop)]
-pub(crate) struct SignalName {
-    pub(crate) inputs: u8,
-    pub(crate) number: u32,
+pub struct SignalName {
+    pub inputs: u8,
+    pub number: u32,
 }
 
 impl fmt::Display for SignalName {

@@ -3,7 +3,6 @@ use Rattle.std.proofs.Common.{◌≡◌, ◌≢◌, ℕ, ◌^◌, ◌<◌, ◌�
 use Rattle.std.specs.Prelude.{codes, slice_index}
 use Rattle.std.specs.List.{AllByRecursion}
 use Rattle.std.specs.Fmt.{decimal}
-use Rattle.std.specs.FinSet as set
 use Rattle.std.proofs.lemmas.Bool.{and_parts}
 use Rattle.std.proofs.lemmas.List.Elements.{recursion_from_All}
 use Rattle.cpog_defs.specs.declared.types.OpId.{OpId}
@@ -14,16 +13,17 @@ use Rattle.cpog_defs.specs.declared.types.Ref.TheVariants.{Const, Signal}
 use Rattle.cpog_defs.specs.Codes.{word_bits}
 use Rattle.cpog_defs.specs.Gates.{IsRefOver, signal_count}
 use Rattle.cpog_defs.specs.Graphs.{op_ref, arc_ref}
-use Rattle.cpog_defs.specs.Scenarios.{Scenario}
 use Rattle.gate_core.proofs.GateLemmas.{gate_reads}
-use Rattle.line_text.specs.Words.{continues_name}
 use Rattle.line_text.proofs.FeedLemmas.{NoFeed, is_clean, joined_free, passes_free, clean_free, clean_front, decimal_free, mapped_free}
-use Rattle.line_text.proofs.TellingLemmas.{AllPass, apart, heads, free_name_passes}
+use Rattle.line_text.proofs.TellingLemmas.{apart, heads, free_name_passes}
 use Rattle.report_text.specs.declared.bound.Bound.{Bound}
 use Rattle.report_text.specs.declared.bound.Bound.TheVariants.{Minimum}
-use Rattle.report_text.specs.Report.{ReportValue, IsReport, IsBound, AreNames}
-use Rattle.report_text.specs.Rows.{digit, digits_of, signal_text, ref_text, name_of, blank_names, scenario_lines, arc_text, gates_row, gate_row, gate_lines, op_row, op_lines, arc_row, arc_lines_from, arc_lines, line_unless_zero, head_lines, end_lines}
-use Rattle.report_text.proofs.WordLemmas.{signal_passes, name_passes}
+use Rattle.netlist_verilog.specs.Module.{AreNames}
+use Rattle.report_text.specs.Report.{ReportValue, IsReport, IsBound}
+use Rattle.netlist_verilog.specs.Wires.{signal_text, name_of}
+use Rattle.report_text.specs.Rows.{digit, digits_of, ref_text, blank_names, scenario_lines, arc_text, gates_row, gate_row, gate_lines, op_row, op_lines, arc_row, arc_lines_from, arc_lines, line_unless_zero, head_lines, end_lines}
+use Rattle.netlist_verilog.proofs.FeedLemmas.{names_pass, name_passes}
+use Rattle.netlist_verilog.proofs.WordLemmas.{signal_passes}
 use Rattle.report_text.proofs.RowLemmas.{AllBy-below, ref_over}
 
 -- a line that isn't `netlist` and holds no line feed
@@ -44,7 +44,7 @@ front_line (b ∷ bs) x h free =
 -- ---- words
 
 word_free : (names : List (List ℕ)) (v : ℕ) → AreNames names → NoFeed (name_of names v)
-word_free names v are = passes_free (name_of names v) (name_passes names v (recursion_from_All (AllPass continues_name) names (λ k d lt. free_name_passes (get_or names k d) (are k d lt))))
+word_free names v are = passes_free (name_of names v) (name_passes names v (names_pass names are))
 
 blanks_free : (names : List (List ℕ)) → AllByRecursion NoFeed names → NoFeed (blank_names names)
 blanks_free [] h = tt

@@ -1,11 +1,9 @@
 -- Two reports with the same text are one: its parts are told from the front on, up to the netlist, which the encoding tells.
 use Rattle.std.proofs.Common.{◌≡◌, ℕ, zero, suc, ◌+◌, ◌^◌, ◌<◌, ◌≤◌, List, [], ◌∷◌, ◌++◌, length, get_or, refl, sym, ap, ap₂, ◌∙◌, arith, append_assoc, subst}
 use Rattle.std.specs.Prelude.{codes, slice_index}
-use Rattle.std.specs.List.{AllByRecursion}
 use Rattle.std.specs.FinSet as set
 use Rattle.std.proofs.lemmas.List.{append_cancel_left, ext_get_or}
 use Rattle.std.proofs.lemmas.List.Concat.{flat_map-append}
-use Rattle.std.proofs.lemmas.List.Elements.{recursion_from_All}
 use Rattle.cpog_base.specs.Names.{AreDistinct}
 use Rattle.cpog_defs.specs.declared.types.Gate.{Gate}
 use Rattle.cpog_defs.specs.declared.types.Place.TheVariants.{Op}
@@ -17,11 +15,14 @@ use Rattle.cpog_defs.specs.Scenarios.{Scenario}
 use Rattle.handshake_eqs.specs.Netlists.{IsNetlistOf}
 use Rattle.line_text.specs.Lines.{text_of}
 use Rattle.line_text.specs.Words.{continues_name}
-use Rattle.line_text.proofs.TellingLemmas.{AllPass, tails, number_told, list_told, free_name_passes}
+use Rattle.line_text.proofs.TellingLemmas.{tails, number_told, list_told, free_name_passes}
 use Rattle.report_text.specs.declared.bound.Bound.{Bound}
 use Rattle.report_text.specs.declared.bound.Bound.TheVariants.{Minimum}
-use Rattle.report_text.specs.Report.{ReportValue, IsReport, AreNames, module_of}
-use Rattle.report_text.specs.Rows.{name_of, bits_row, budget_row, operations_row, scenario_lines, gates_row, gate_row, gate_lines, op_row, op_lines, arc_lines, bound_row, end_lines, netlist_lines, report_lines}
+use Rattle.netlist_verilog.specs.Module.{AreNames}
+use Rattle.report_text.specs.Report.{ReportValue, IsReport, module_of}
+use Rattle.netlist_verilog.specs.Wires.{name_of}
+use Rattle.netlist_verilog.proofs.FeedLemmas.{names_pass}
+use Rattle.report_text.specs.Rows.{bits_row, budget_row, operations_row, scenario_lines, gates_row, gate_row, gate_lines, op_row, op_lines, arc_lines, bound_row, end_lines, netlist_lines, report_lines}
 use Rattle.report_text.proofs.BelowLemmas.{text_below, below_told, count_told}
 use Rattle.report_text.proofs.RowLemmas.{lines_differ, gate_told, op_told, entries_told, same_graph, bound_told, IsAfterArcs}
 use Rattle.report_text.proofs.ScenarioLemmas.{block, block_told}
@@ -38,9 +39,6 @@ groups_differ : (f g : ℕ → List (List ℕ)) (m n : ℕ) (ms ms' : List (List
     → each_below (λ k. text_of (f k)) m ++ (text_of ms ++ x) ≡ each_below (λ k. text_of (g k)) n ++ (text_of ms' ++ y)
 groups_differ f g m n ms ms' x y e =
     ap (λ t. t ++ (text_of ms ++ x)) (sym (text_below f m)) ∙ lists_differ (each_below f m) (each_below g n) ms ms' x y e ∙ ap (λ t. t ++ (text_of ms' ++ y)) (text_below g n)
-
-passes : (names : List (List ℕ)) → AreNames names → AllByRecursion (AllPass continues_name) names
-passes names h = recursion_from_All (AllPass continues_name) names (λ k d lt. free_name_passes (get_or names k d) (h k d lt))
 
 -- ---- scenarios
 
@@ -61,7 +59,7 @@ scenario_told a b ia ib eb en k ha hb x y e =
     let sa = ia.scenarios k (record { count = 0; ops = set.empty; arcs = [] }) ha in
     let sb = ib.scenarios k (record { count = 0; ops = set.empty; arcs = [] }) hb in
     let e' = e ∙ ap₂ (λ bits names. text_of (block bits names (name_of b.scenario_names k) (slice_index b.encoding.codes k) (scenario_at b k)) ++ y) (sym eb) (sym en) in
-    let r = block_told a.bits a.names (name_of a.scenario_names k) (name_of b.scenario_names k) (slice_index a.encoding.codes k) (slice_index b.encoding.codes k) (scenario_at a k) (scenario_at b k) x y ia.distinct (passes a.names ia.names)
+    let r = block_told a.bits a.names (name_of a.scenario_names k) (name_of b.scenario_names k) (slice_index a.encoding.codes k) (slice_index b.encoding.codes k) (scenario_at a k) (scenario_at b k) x y ia.distinct (names_pass a.names ia.names)
     (free_name_passes _ (ia.scenario_names k [] (omega (arith, ia.one_name_each)))) (free_name_passes _ (ib.scenario_names k [] (omega (arith, ib.one_name_each))))
     (code_below a a.bits k ia refl ha) (code_below b a.bits k ib (sym eb) hb) sa.scenario sb.scenario sa.count_is (sb.count_is ∙ ap length (sym en)) e' in
     (record { name = r.0.0; code = r.0.1.0; scenario = r.0.1.1 }, r.1)
@@ -104,7 +102,7 @@ graphs_told bits signals names g h b c ms ms' fit are distinct gs hs e =
     (λ v lt x y t. op_told bits signals (name_of names v) (op_ref g v) (op_ref h v) x y fit (gs.over (Op (record { 0 = v })) lt) (hs.over (Op (record { 0 = v })) lt) t)
     (text_of (arc_lines bits names g ++ (end_lines b ++ ms)) ++ []) (text_of (arc_lines bits names h ++ (end_lines c ++ ms')) ++ []) e1 in
     let e2 = lists_differ (arc_lines bits names g) (arc_lines bits names h) (end_lines b ++ ms) (end_lines c ++ ms') [] [] ops.1 in
-    let arcs = entries_told bits signals names g h (text_of (end_lines b ++ ms) ++ []) (text_of (end_lines c ++ ms') ++ []) fit distinct (passes names are) gs hs (end_after b ms) (end_after c ms') e2 in
+    let arcs = entries_told bits signals names g h (text_of (end_lines b ++ ms) ++ []) (text_of (end_lines c ++ ms') ++ []) fit distinct (names_pass names are) gs hs (end_after b ms) (end_after c ms') e2 in
     (same_graph n signals g h gs hs ops.0 arcs.0, arcs.1)
 
 -- ---- the whole report
@@ -141,7 +139,7 @@ head_told a b ia ib e =
     (append_cancel_left (codes "bits ") _ _ (lines_differ (bits_row a.bits) (bits_row b.bits) (budget_row a.budget ∷ operations_row a.names ∷ scenarios_on a) (budget_row b.budget ∷ operations_row b.names ∷ scenarios_on b) [] [] l1)) in
     let l3 = number_told a.budget b.budget 10 (text_of (operations_row a.names ∷ scenarios_on a) ++ []) (text_of (operations_row b.names ∷ scenarios_on b) ++ []) (omega (arith, ia.few_budget)) (omega (arith, ib.few_budget)) refl
     (append_cancel_left (codes "budget ") _ _ (lines_differ (budget_row a.budget) (budget_row b.budget) (operations_row a.names ∷ scenarios_on a) (operations_row b.names ∷ scenarios_on b) [] [] l2.1)) in
-    let l4 = list_told continues_name a.names b.names (text_of (scenarios_on a) ++ []) (text_of (scenarios_on b) ++ []) refl refl (passes a.names ia.names) (passes b.names ib.names)
+    let l4 = list_told continues_name a.names b.names (text_of (scenarios_on a) ++ []) (text_of (scenarios_on b) ++ []) refl refl (names_pass a.names ia.names) (names_pass b.names ib.names)
     (append_cancel_left (codes "operations") _ _ (lines_differ (operations_row a.names) (operations_row b.names) (scenarios_on a) (scenarios_on b) [] [] l3.1)) in
     record { bits = l2.0; budget = l3.0; names = l4.0; rest = l4.1 }
 

@@ -1,5 +1,5 @@
 -- The module at the end of a report's text.
-use Rattle.std.proofs.Common.{◌≡◌, ◌≢◌, ℕ, ◌+◌, List, [], ◌∷◌, ◌++◌, length, refl, sym, ap, ◌∙◌, arith, append_assoc}
+use Rattle.std.proofs.Common.{◌≡◌, ◌≢◌, ℕ, List, [], ◌∷◌, ◌++◌, length, refl, sym, ap, ◌∙◌, arith, append_assoc}
 use Rattle.std.specs.Prelude.{codes}
 use Rattle.std.specs.List.{AllByRecursion}
 use Rattle.cpog_defs.specs.Orders.{each_below}
@@ -7,7 +7,6 @@ use Rattle.line_text.specs.Lines.{lines_of, text_of}
 use Rattle.line_text.proofs.SplittingLemmas.{lines_again}
 use Rattle.line_text.proofs.FeedLemmas.{NoFeed, clean_free}
 use Rattle.netlist_verilog.specs.Module.{IsModule}
-use Rattle.netlist_verilog.specs.Rows.{module_lines}
 use Rattle.netlist_verilog.proofs.FeedLemmas.{lines_free}
 use Rattle.report_text.specs.Report.{ReportValue, IsReport, module_of}
 use Rattle.report_text.specs.Rows.{scenario_lines, gates_row, gate_lines, op_lines, arc_lines, head_lines, end_lines, netlist_lines, report_lines}

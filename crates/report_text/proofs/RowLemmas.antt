@@ -19,9 +19,12 @@ use Rattle.line_text.proofs.TellingLemmas.{AllPass, word_told, heads, tails, num
 use Rattle.report_text.specs.declared.bound.Bound.{Bound}
 use Rattle.report_text.specs.declared.bound.Bound.TheVariants.{Minimum}
 use Rattle.report_text.specs.Report.{IsBound}
-use Rattle.report_text.specs.Rows.{name_of, digits_of, signal_text, ref_text, gate_row, op_row, arc_row, line_unless_zero, arc_lines_from, arc_lines, bound_row}
+use Rattle.netlist_verilog.specs.Wires.{name_of, signal_text}
+use Rattle.report_text.specs.Rows.{digits_of, ref_text, gate_row, op_row, arc_row, line_unless_zero, arc_lines_from, arc_lines, bound_row}
 use Rattle.report_text.proofs.BelowLemmas.{flat_below, text_below, same_below, In, in_below, below_in}
-use Rattle.report_text.proofs.WordLemmas.{digits_told, signal_told, ref_told, name_passes, name_is}
+use Rattle.netlist_verilog.proofs.FeedLemmas.{name_passes}
+use Rattle.netlist_verilog.proofs.WordLemmas.{signal_told, name_is}
+use Rattle.report_text.proofs.WordLemmas.{digits_told, ref_told}
 
 -- the first line of more, before other text
 pub line_first : (row : List ℕ) (ls : List (List ℕ)) (x : List ℕ) → text_of (row ∷ ls) ++ x ≡ row ++ 10 ∷ (text_of ls ++ x)

@@ -14,9 +14,12 @@ use Rattle.cpog_defs.specs.Scenarios.{Scenario, IsScenario}
 use Rattle.line_text.specs.Lines.{text_of}
 use Rattle.line_text.specs.Words.{continues_name}
 use Rattle.line_text.proofs.TellingLemmas.{AllPass, word_told, list_told, AllPass-append, or-true_left}
-use Rattle.report_text.specs.Rows.{name_of, members_below, arc_text, digits_of, scenario_row, has_row, arcs_row}
+use Rattle.netlist_verilog.specs.Wires.{name_of}
+use Rattle.report_text.specs.Rows.{members_below, arc_text, digits_of, scenario_row, has_row, arcs_row}
 use Rattle.report_text.proofs.BelowLemmas.{In, in_below, below_in}
-use Rattle.report_text.proofs.WordLemmas.{digits_told, name_passes, name_is}
+use Rattle.netlist_verilog.proofs.FeedLemmas.{name_passes}
+use Rattle.netlist_verilog.proofs.WordLemmas.{name_is}
+use Rattle.report_text.proofs.WordLemmas.{digits_told}
 use Rattle.report_text.proofs.RowLemmas.{lines_differ, AllBy-below}
 use Rattle.report_text.proofs.WritingLemmas.{ends_below}
 

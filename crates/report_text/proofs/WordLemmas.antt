@@ -1,22 +1,17 @@
 -- The words of a report's lines tell what they stand for.
-use Rattle.std.proofs.Common.{◌≡◌, ℕ, zero, suc, ◌-◌, ◌^◌, ◌<◌, ◌≤◌, Bool, true, false, ltb, eqb, List, [], ◌∷◌, ◌++◌, map, length, get_or, refl, sym, ap, ap₂, ◌∙◌, ◌⊎◌, inl, inr, arith, subst}
-use Rattle.std.specs.List.{AllByRecursion}
+use Rattle.std.proofs.Common.{◌≡◌, ℕ, zero, suc, ◌-◌, ◌^◌, ◌<◌, ◌≤◌, Bool, true, false, eqb, List, [], ◌∷◌, ◌++◌, map, get_or, refl, sym, ap, ap₂, ◌∙◌, inl, inr, arith}
 use Rattle.std.specs.Fmt.{decimal}
-use Rattle.std.specs.Str.{bytes_eq}
-use Rattle.std.proofs.lemmas.Bool.{cases_lt, ltb-true, lt-ltb}
-use Rattle.std.proofs.lemmas.Slice.Eq.{bytes_eq-Decides}
-use Rattle.std.proofs.lemmas.Map.Keys.{apart_from_distinct}
-use Rattle.std.proofs.lemmas.Fmt.{decimal_injective}
 use Rattle.std.proofs.lemmas.Nat.Bits.{same_from_bits_below, bit_at-lt}
-use Rattle.cpog_base.specs.Names.{AreDistinct}
 use Rattle.cpog_defs.specs.Codes.{word_bits}
 use Rattle.cpog_defs.specs.Gates.{IsRefOver}
 use Rattle.cpog_defs.specs.declared.types.Ref.{Ref}
 use Rattle.cpog_defs.specs.declared.types.Ref.TheVariants.{Const, Signal}
 use Rattle.gate_core.proofs.GateLemmas.{get_or-word_bits}
 use Rattle.line_text.specs.Words.{continues_name}
-use Rattle.line_text.proofs.TellingLemmas.{AllPass, apart, word_told, heads, tails, decimal_continues}
-use Rattle.report_text.specs.Rows.{digit, digits_of, signal_text, ref_text, name_of}
+use Rattle.line_text.proofs.TellingLemmas.{AllPass, word_told, heads, tails}
+use Rattle.netlist_verilog.specs.Wires.{signal_text}
+use Rattle.netlist_verilog.proofs.WordLemmas.{signal_cases, signal_told}
+use Rattle.report_text.specs.Rows.{digit, digits_of, ref_text}
 
 -- ---- digits
 
@@ -60,46 +55,6 @@ digits_told n v w x y hv hw e =
 
 -- ---- signals and conditions
 
-prefixed : (b : ℕ) (n : ℕ) → n < 2 ^ 64 → continues_name b ≡ true → AllPass continues_name (b ∷ decimal n)
-prefixed b n lt h = (h, decimal_continues n lt)
-
-signal_cases : (inputs n : ℕ) → ((n < inputs) × (signal_text inputs n ≡ 120 ∷ decimal n)) ⊎ ((inputs ≤ n) × (signal_text inputs n ≡ 103 ∷ decimal (n - inputs)))
-signal_cases inputs n = elim (cases_lt n inputs) [
-  | inl l ↦ inl (l, rw (lt-ltb n inputs l) refl)
-  | inr g ↦ inr (g, rw (ge-ltb n inputs g) refl)
-]
-  where
-    ge-ltb : (m k : ℕ) → k ≤ m → ltb m k ≡ false
-    ge-ltb m k h = false_where (ltb m k) (λ e. (let l : m < k = ltb-true m k e in omega arith))
-      where
-        false_where : (b : Bool) → (b ≡ true → ⊥) → b ≡ false
-        false_where true h = absurd (h refl)
-        false_where false h = refl
-
-pub signal_passes : (inputs n : ℕ) → n < 2 ^ 64 → AllPass continues_name (signal_text inputs n)
-signal_passes inputs n lt = elim (signal_cases inputs n) [
-  | inl h ↦ subst (AllPass continues_name) (sym h.1) (prefixed 120 n lt refl)
-  | inr h ↦ subst (AllPass continues_name) (sym h.1) (prefixed 103 (n - inputs) (omega arith) refl)
-]
-
-pub signal_is : (inputs m n : ℕ) → m < 2 ^ 64 → n < 2 ^ 64 → signal_text inputs m ≡ signal_text inputs n → m ≡ n
-signal_is inputs m n hm hn e = elim (signal_cases inputs m) [
-  | inl a ↦ elim (signal_cases inputs n) [
-    | inl b ↦ decimal_injective m n hm hn (tails 120 120 _ _ (sym a.1 ∙ e ∙ b.1))
-    | inr b ↦ absurd (omega (arith, heads 120 103 _ _ (sym a.1 ∙ e ∙ b.1)))
-  ]
-  | inr a ↦ elim (signal_cases inputs n) [
-    | inl b ↦ absurd (omega (arith, heads 103 120 _ _ (sym a.1 ∙ e ∙ b.1)))
-    | inr b ↦ (let h = decimal_injective (m - inputs) (n - inputs) (omega arith) (omega arith) (tails 103 103 _ _ (sym a.1 ∙ e ∙ b.1)) in omega (arith, h, a.0, b.0))
-  ]
-]
-
--- a signal, before a byte that no name has
-pub signal_told : (inputs m n c : ℕ) (x y : List ℕ) → m < 2 ^ 64 → n < 2 ^ 64 → continues_name c ≡ false → signal_text inputs m ++ c ∷ x ≡ signal_text inputs n ++ c ∷ y → (m ≡ n) × (x ≡ y)
-signal_told inputs m n c x y hm hn hc e =
-    let r = word_told continues_name (signal_text inputs m) (signal_text inputs n) c x y (signal_passes inputs m hm) (signal_passes inputs n hn) hc e in
-    (signal_is inputs m n hm hn r.0, r.1)
-
 -- a signal begins with a letter
 signal_head : (inputs n : ℕ) (x : List ℕ) → (b : ℕ) × (r : List ℕ) × (100 < b) × (signal_text inputs n ++ x ≡ b ∷ r)
 signal_head inputs n x = elim (signal_cases inputs n) [
@@ -128,27 +83,3 @@ ref_told inputs signals (Signal m false) (Signal n false) x y fit hr hs e = let 
 ref_told inputs signals (Signal m true) (Signal n true) x y fit hr hs e = let t = signal_told inputs m n 10 x y (omega arith) (omega arith) refl (tails _ _ _ _ e) in (ap (λ k. Signal k true) t.0, t.1)
 ref_told inputs signals (Signal m false) (Signal n true) x y fit hr hs e = absurd (not_signal inputs m 33 _ _ (omega arith) e)
 ref_told inputs signals (Signal m true) (Signal n false) x y fit hr hs e = absurd (not_signal inputs n 33 _ _ (omega arith) (sym e))
-
--- ---- names
-
-empty_passes : (p : ℕ → Bool) (names : List (List ℕ)) (v : ℕ) → AllByRecursion (AllPass p) names → AllPass p (name_of names v)
-empty_passes p [] v h = tt
-empty_passes p (n ∷ ns) zero h = h.0
-empty_passes p (n ∷ ns) (suc v) h = empty_passes p ns v h.1
-
--- each name of a list that has them passes, and the empty text past its end
-pub name_passes : (names : List (List ℕ)) (v : ℕ) → AllByRecursion (AllPass continues_name) names → AllPass continues_name (name_of names v)
-name_passes names v h = empty_passes continues_name names v h
-
-same_bytes : (bs cs : List ℕ) → bs ≡ cs → bytes_eq bs cs ≡ true
-same_bytes bs cs e = (bytes_eq-Decides bs cs).1 e
-
--- different operations have different names
-pub name_is : (names : List (List ℕ)) (u v : ℕ) → AreDistinct names → u < length names → v < length names → name_of names u ≡ name_of names v → u ≡ v
-name_is names u v distinct hu hv e = elim (cases_lt u v) [
-  | inl l ↦ absurd (apart _ _ (same_bytes _ _ e) (apart_from_distinct bytes_eq names u v [] distinct l hv) refl)
-  | inr g ↦ elim (cases_lt v u) [
-    | inl l ↦ absurd (apart _ _ (same_bytes _ _ (sym e)) (apart_from_distinct bytes_eq names v u [] distinct l hu) refl)
-    | inr g' ↦ omega arith
-  ]
-]

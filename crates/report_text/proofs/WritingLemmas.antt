@@ -17,7 +17,8 @@ use Rattle.report_text.specs.declared.bound.Bound.{Bound}
 use Rattle.netlist_verilog.specs.Module.{ModuleValue}
 use Rattle.report_text.specs.Report.{ReportValue, module_of}
 use Rattle.line_text.specs.Lines.{text_of}
-use Rattle.report_text.specs.Rows.{blank_names, name_of, members_below, op_row, arc_row, arc_text, arc_lines_from, line_unless_zero, head_lines, scenario_lines, gates_row, gate_lines, op_lines, arc_lines, end_lines, netlist_lines, report_lines}
+use Rattle.netlist_verilog.specs.Wires.{name_of}
+use Rattle.report_text.specs.Rows.{blank_names, members_below, op_row, arc_row, arc_text, arc_lines_from, line_unless_zero, head_lines, scenario_lines, gates_row, gate_lines, op_lines, arc_lines, end_lines, netlist_lines, report_lines}
 
 -- a line that was written up to its line feed
 pub line_ends : (a row : List ℕ) → (a ++ row) ++ 10 ∷ [] ≡ a ++ text_of (row ∷ [])
@@ -132,12 +133,9 @@ second_below sc arcs k i n d is same lt at count =
     omega (arith, h.1, e, count)
 
 -- the pieces of a gate's line
-pub gate_written : (a sg sj sk digits o1 o2 o3 o4 o5 o6 o7 : List ℕ) → o1 ≡ a ++ (103 ∷ (sg ++ 32 ∷ [])) → o2 ≡ o1 ++ sj → o3 ≡ o2 ++ 32 ∷ [] → o4 ≡ o3 ++ sk → o5 ≡ o4 ++ 32 ∷ [] → o6 ≡ o5 ++ digits → o7 ≡ o6 ++ 10 ∷ []
-    → o7 ≡ a ++ text_of ((103 ∷ (sg ++ (32 ∷ (sj ++ (32 ∷ (sk ++ (32 ∷ digits))))))) ∷ [])
-gate_written a sg sj sk digits o1 o2 o3 o4 o5 o6 o7 e1 e2 e3 e4 e5 e6 e7 =
-    e7
-    ∙ ap (λ x. x ++ 10 ∷ []) (e6 ∙ ap (λ x. x ++ digits) (e5 ∙ ap (λ x. x ++ 32 ∷ []) (e4 ∙ ap (λ x. x ++ sk) (e3 ∙ ap (λ x. x ++ 32 ∷ []) (e2 ∙ ap (λ x. x ++ sj) e1)))))
-    ∙ simp (append_assoc, append-nil)
+pub gate_written : (a g sj sk digits o1 o2 o3 : List ℕ) → o1 ≡ a ++ (103 ∷ (g ++ (32 ∷ (sj ++ (32 ∷ (sk ++ 32 ∷ [])))))) → o2 ≡ o1 ++ digits → o3 ≡ o2 ++ 10 ∷ []
+    → o3 ≡ a ++ text_of ((103 ∷ (g ++ (32 ∷ (sj ++ (32 ∷ (sk ++ (32 ∷ digits))))))) ∷ [])
+gate_written a g sj sk digits o1 o2 o3 e1 e2 e3 = e3 ∙ ap (λ x. x ++ 10 ∷ []) (e2 ∙ ap (λ x. x ++ digits) e1) ∙ simp (append_assoc, append-nil)
 
 -- the pieces of the first lines
 head_joined : (a bits budget names : List ℕ) → ((a ++ (codes "cpog report 1\nbits " ++ (bits ++ (codes "\nbudget " ++ (budget ++ codes "\noperations"))))) ++ names) ++ 10 ∷ []

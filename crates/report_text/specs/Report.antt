@@ -1,13 +1,12 @@
 -- What a report says.
-use Rattle.std.specs.Prelude.{◌≡◌, ℕ, ◌<◌, ◌≤◌, ◌⊎◌, IsTrue, List, length}
+use Rattle.std.specs.Prelude.{◌≡◌, ℕ, ◌<◌, ◌≤◌, ◌⊎◌, List, length}
 use Rattle.std.specs.List.{All, AllPairs}
 use Rattle.cpog_base.specs.Names.{AreDistinct}
 use Rattle.cpog_defs.specs.declared.types.OpId.{OpId}
 use Rattle.cpog_defs.specs.Scenarios.{Scenario, IsScenario}
 use Rattle.cpog_defs.specs.Encodings.{Encoding, IsEncoding}
 use Rattle.handshake_eqs.specs.Netlists.{Netlist, IsNetlistOf}
-use Rattle.line_text.specs.Words.{is_free_name}
-use Rattle.netlist_verilog.specs.Module.{ModuleValue}
+use Rattle.netlist_verilog.specs.Module.{ModuleValue, AreNames}
 use Rattle.report_text.specs.declared.bound.Bound.{Bound}
 use Rattle.report_text.specs.declared.bound.Bound.TheVariants.{Minimum}
 
@@ -39,10 +38,6 @@ pub record IsReported (count : ℕ) (sc : Scenario) : Type 0 where
 -- a minimum of 0 needs no evidence, and no other bound stands without its own
 abbrev pub IsBound : Bound → Type 0
 IsBound (Minimum h) = h ≡ 0
-
--- each word is a name and no keyword
-abbrev pub AreNames : List (List ℕ) → Type 0
-AreNames names = All (λ name. IsTrue (is_free_name name)) names
 
 -- 1 to 8 bits, a budget of 1 to 8388608, at most 64 operations, 1 to 64 scenarios with a name and a code each, fewer
 -- than 65536 gates, and the netlist of the encoding

@@ -1,5 +1,5 @@
 -- The lines of a report, a definition for each kind.
-use Rattle.std.specs.Prelude.{ℕ, ◌-◌, nat_lt, Bool, true, false, if◌then◌else◌, List, [], ◌∷◌, ◌++◌, length, map, slice_index, slice_index_or, codes}
+use Rattle.std.specs.Prelude.{ℕ, Bool, true, false, if◌then◌else◌, List, [], ◌∷◌, ◌++◌, length, map, slice_index, slice_index_or, codes}
 use Rattle.std.specs.List.{flat_map}
 use Rattle.std.specs.Fmt.{decimal}
 use Rattle.std.specs.FinSet as set
@@ -13,6 +13,7 @@ use Rattle.cpog_defs.specs.Orders.{Set, each_below}
 use Rattle.cpog_defs.specs.Scenarios.{Scenario}
 use Rattle.report_text.specs.declared.bound.Bound.{Bound}
 use Rattle.report_text.specs.declared.bound.Bound.TheVariants.{Minimum}
+use Rattle.netlist_verilog.specs.Wires.{signal_text, name_of}
 use Rattle.netlist_verilog.specs.Module.{ModuleValue}
 use Rattle.netlist_verilog.specs.Rows.{module_lines}
 use Rattle.report_text.specs.Report.{ReportValue, module_of}
@@ -25,20 +26,12 @@ digit b = if b then 49 else 48
 abbrev pub digits_of : ℕ → ℕ → List ℕ
 digits_of bits word = map digit (word_bits word bits)
 
--- a signal over so many inputs: the inputs are x0, x1 and on, and the gates g0, g1 and on
-abbrev pub signal_text : ℕ → ℕ → List ℕ
-signal_text inputs n = if nat_lt n inputs then codes "x" ++ decimal n else codes "g" ++ decimal (n - inputs)
-
 -- a constant, a signal, or its complement
 abbrev pub ref_text : ℕ → Ref → List ℕ
 ref_text inputs (Const false) = codes "0"
 ref_text inputs (Const true) = codes "1"
 ref_text inputs (Signal n false) = signal_text inputs n
 ref_text inputs (Signal n true) = codes "!" ++ signal_text inputs n
-
--- the name of an operation
-abbrev pub name_of : List (List ℕ) → ℕ → List ℕ
-name_of names v = slice_index_or names v []
 
 -- each name behind a blank
 abbrev pub blank_names : List (List ℕ) → List ℕ

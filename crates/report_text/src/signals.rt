@@ -1,23 +1,12 @@
-//! The texts of signals, conditions and bits.
+//! The texts of conditions and bits.
 ghost use Rattle.std.specs.Prelude.{◌≡◌, ◌++◌, ◌∷◌, [], ◌<◌, ◌≤◌, OnOk, string_bytes};
 ghost use Rattle.cpog_defs.specs.Codes.{bit};
-ghost use Rattle.report_text.specs.Rows.{digit, digits_of, signal_text, ref_text};
+ghost use Rattle.report_text.specs.Rows.{digit, digits_of, ref_text};
 
 use cpog_defs::types::Ref;
+use netlist_verilog::SignalName;
 use std::alloc::AllocError;
 use std::fmt::Write;
-
-/// Writes a signal over so many inputs.
-pub(crate) fn put_signal(out: &mut String, inputs: u8, number: u32) -> Result<(), AllocError>
-    ensures { OnOk result (string_bytes out.new ≡ string_bytes out.old ++ signal_text inputs number) }
-{
-    let inputs = u32::from(inputs);
-    if number < inputs {
-        write!(out, "x{number}")
-    } else {
-        write!(out, "g{}", number - inputs)
-    }
-}
 
 /// Writes a condition over so many inputs.
 pub(crate) fn put_ref(out: &mut String, inputs: u8, reference: Ref) -> Result<(), AllocError>
@@ -29,14 +18,11 @@ pub(crate) fn put_ref(out: &mut String, inputs: u8, reference: Ref) -> Result<()
         Ref::Signal {
             number,
             negated: false,
-        } => put_signal(out, inputs, number),
+        } => write!(out, "{}", SignalName { inputs, number }),
         Ref::Signal {
             number,
             negated: true,
-        } => {
-            out.push_str("!")?;
-            put_signal(out, inputs, number)
-        }
+        } => write!(out, "!{}", SignalName { inputs, number }),
     }
 }
 

@@ -4,14 +4,15 @@ ghost use Rattle.std.specs.FinSet as set;
 ghost use Rattle.cpog_defs.specs.Orders.{each_below};
 ghost use Rattle.cpog_defs.specs.Scenarios.{IsScenario};
 ghost use Rattle.line_text.specs.Lines.{text_of};
-ghost use Rattle.report_text.specs.Rows.{name_of, blank_names, scenario_row, has_row, arcs_row, scenario_lines, gates_row, gate_row, gate_lines, op_row, op_lines, arc_row, arc_lines_from, arc_lines, head_lines, end_lines, netlist_lines, report_lines, line_unless_zero};
+ghost use Rattle.netlist_verilog.specs.Wires.{name_of};
+ghost use Rattle.report_text.specs.Rows.{blank_names, scenario_row, has_row, arcs_row, scenario_lines, gates_row, gate_row, gate_lines, op_row, op_lines, arc_row, arc_lines_from, arc_lines, head_lines, end_lines, netlist_lines, report_lines, line_unless_zero};
 
-use crate::signals::{put_digits, put_ref, put_signal};
+use crate::signals::{put_digits, put_ref};
 use crate::{Bound, Report};
 use cpog_base::{Memory, Names, OpId, OpSet, Scenario};
 use cpog_defs::types::{Gate, Ref};
 use gate_core::ConditionalGraph;
-use netlist_verilog::{Module, put_module};
+use netlist_verilog::{Module, SignalName, put_module};
 use std::alloc::{AllocError, Global};
 use std::fmt::Write;
 
@@ -144,11 +145,15 @@ fn put_gates(out: &mut String, bits: u8, gates: &[Gate]) -> Result<(), AllocErro
 fn put_gate(out: &mut String, bits: u8, g: usize, gate: &Gate) -> Result<(), AllocError>
     ensures { OnOk result (string_bytes out.new ≡ string_bytes out.old ++ text_of (gate_row bits g gate.now ∷ [])) }
 {
-    write!(out, "g{g} ")?;
-    put_signal(out, bits, gate.j)?;
-    out.push_str(" ")?;
-    put_signal(out, bits, gate.k)?;
-    out.push_str(" ")?;
+    let j = SignalName {
+        inputs: bits,
+        number: gate.j,
+    };
+    let k = SignalName {
+        inputs: bits,
+        number: gate.k,
+    };
+    write!(out, "g{g} {j} {k} ")?;
     put_digits(out, 4, gate.table)?;
     out.push_str("\n")?;
     Ok(())

@@ -1,5 +1,6 @@
 use Rattle.std.proofs.Common.{◌≡◌, ◌++◌, string_bytes, map}
-use Rattle.report_text.specs.Rows.{blank_names, name_of, members_below}
+use Rattle.netlist_verilog.specs.Wires.{name_of}
+use Rattle.report_text.specs.Rows.{blank_names, members_below}
 use Rattle.report_text.proofs.writing.put_members.Given as goal
 
 abbrev pub invariant-members : goal.invariant-members

@@ -2,7 +2,8 @@ use Rattle.std.proofs.Common.{◌≡◌, ◌++◌, string_bytes, ◌∷◌, []}
 use Rattle.line_text.specs.Lines.{text_of}
 use Rattle.cpog_defs.specs.Orders.{each_below}
 use Rattle.cpog_defs.specs.Graphs.{op_ref}
-use Rattle.report_text.specs.Rows.{op_row, name_of}
+use Rattle.netlist_verilog.specs.Wires.{name_of}
+use Rattle.report_text.specs.Rows.{op_row}
 use Rattle.report_text.proofs.writing.put_ops.Given as goal
 
 abbrev pub invariant-ops : goal.invariant-ops
