@@ -19,11 +19,11 @@ use Rattle.cpog_defs.specs.Graphs.{ConditionalGraph}
 use Rattle.cpog_defs.specs.Encodings.{Encoding}
 use Rattle.cpog_outside.specs.Told.{IsAllOf, IsLonger}
 use Rattle.line_text.specs.Lines.{text_of}
-use Rattle.pg_text.specs.declared.fault.FileFault.TheVariants as fault
-use Rattle.pg_text.specs.Contents.{Contents}
-use Rattle.pg_text.specs.Lines.{graph_lines}
-use Rattle.pg_text.specs.Text.{IsGoodLine}
-use Rattle.pg_text.proofs.TextLaws.{one_file, one_first_bad, one_fault, file_has_no_fault}
+use Rattle.plain_text.specs.declared.fault.FileFault.TheVariants as fault
+use Rattle.plain_text.specs.Contents.{Contents}
+use Rattle.plain_text.specs.Lines.{graph_lines}
+use Rattle.plain_text.specs.Text.{IsGoodLine}
+use Rattle.plain_text.proofs.TextLaws.{one_file, one_first_bad, one_fault, file_has_no_fault}
 use Rattle.report_text.specs.declared.bound.Bound.{Bound}
 use Rattle.report_text.specs.declared.bound.Bound.TheVariants.{Minimum}
 use Rattle.report_text.specs.Report.{ReportValue}

@@ -12,9 +12,9 @@ use Rattle.cpog_defs.specs.Walks.{last, more}
 use Rattle.cpog_defs.specs.Scenarios.{Scenario, IsBefore}
 use Rattle.cpog_base.proofs.ArcLemmas.{has_from_contains}
 use Rattle.cpog_base.specs.Arcs.{has_arc, with_arc}
-use Rattle.pg_algebra.specs.declared.expr.Expr.{Expr, Op, Overlay', Sequence', Row_of-Expr, end_of-Expr, more_of-Expr}
+use Rattle.plain_text.specs.declared.expr.Expr.{Expr, Op, Overlay', Sequence', Row_of-Expr, end_of-Expr, more_of-Expr}
 use Rattle.pg_algebra.specs.Graphs.{Graph}
-use Rattle.pg_algebra.specs.Meaning.{graph_of, overlay_row, sequence_row}
+use Rattle.plain_text.specs.Meaning.{graph_of, overlay_row, sequence_row}
 use Rattle.cpog_app.specs.Scenarios.{arcs_from, arcs_where, set_where, scenario_of}
 
 pub has_append : (xs ys : List (OpId × OpId)) (a b : ℕ) → has_arc (xs ++ ys) a b ≡ (has_arc xs a b || has_arc ys a b)

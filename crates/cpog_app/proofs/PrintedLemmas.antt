@@ -8,7 +8,7 @@ use Rattle.handshake_eqs.specs.Machines.{IsRequested, IsDone}
 use Rattle.handshake_eqs.proofs.NetlistLemmas.{agrees_over_runs}
 use Rattle.netlist_verilog.proofs.ValueLemmas.{outputs_settled}
 use Rattle.line_text.specs.Lines.{text_of}
-use Rattle.pg_text.specs.Contents.{Contents}
+use Rattle.plain_text.specs.Contents.{Contents}
 use Rattle.report_text.specs.Report.{ReportValue, module_of}
 use Rattle.report_text.specs.Rows.{report_lines}
 use Rattle.report_text.specs.Laws.{EndsWithModule}

@@ -20,12 +20,12 @@ use Rattle.cpog_defs.specs.Entries.{Agrees, entry_at}
 use Rattle.cpog_defs.specs.Encodings.{Encoding, IsEncoding, Fits}
 use Rattle.handshake_eqs.specs.Netlists.{Netlist, IsNetlistOf}
 use Rattle.line_text.specs.Words.{is_free_name}
-use Rattle.pg_algebra.specs.Meaning.{graph_of}
-use Rattle.pg_text.specs.declared.statement.Statement.{Statement}
-use Rattle.pg_text.specs.declared.statement.Statement.TheVariants as statement
-use Rattle.pg_text.specs.declared.statement.Numbered.{Numbered}
-use Rattle.pg_text.specs.Contents.{Contents}
-use Rattle.pg_text.specs.Text.{IsFile, IsStatementOver}
+use Rattle.plain_text.specs.Meaning.{graph_of}
+use Rattle.plain_text.specs.declared.statement.Statement.{Statement}
+use Rattle.plain_text.specs.declared.statement.Statement.TheVariants as statement
+use Rattle.plain_text.specs.declared.statement.Numbered.{Numbered}
+use Rattle.plain_text.specs.Contents.{Contents}
+use Rattle.plain_text.specs.Text.{IsFile, IsStatementOver}
 use Rattle.report_text.specs.declared.bound.Bound.TheVariants.{Minimum}
 use Rattle.report_text.specs.Report.{IsArcBefore, IsReport, IsReported}
 use Rattle.cpog_app.specs.Conditions.{IsOneBitEncoding}

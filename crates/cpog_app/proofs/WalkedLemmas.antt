@@ -7,7 +7,7 @@ use Rattle.std.proofs.lemmas.List.{get_or-set_same, get_or-set_other}
 use Rattle.std.specs.Cmp.{nat_cmp_total}
 use Rattle.std.specs.FinSet as set
 use Rattle.cpog_defs.specs.Orders.{Set}
-use Rattle.pg_algebra.specs.declared.expr.Expr.{Expr}
+use Rattle.plain_text.specs.declared.expr.Expr.{Expr}
 
 -- the list from a place on is the member there and the list behind it
 pub split_item : (items : List Expr) (i : ℕ) (e : Expr) → i < length items → e ≡ get_or items i e → drop i items ≡ e ∷ drop (i + 1) items

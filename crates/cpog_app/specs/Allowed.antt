@@ -10,9 +10,9 @@ use Rattle.cpog_defs.specs.Scenarios.{AreOrdersOf}
 use Rattle.cpog_outside.specs.Causes.{Rose}
 use Rattle.cpog_outside.specs.Told.{IsAllOf, IsLonger, TakesFront}
 use Rattle.line_text.specs.Lines.{text_of}
-use Rattle.pg_text.specs.Contents.{Contents}
-use Rattle.pg_text.specs.Lines.{graph_lines, IsFirstBad}
-use Rattle.pg_text.specs.Text.{IsFileOf, IsGoodLine, IsPassed}
+use Rattle.plain_text.specs.Contents.{Contents}
+use Rattle.plain_text.specs.Lines.{graph_lines, IsFirstBad}
+use Rattle.plain_text.specs.Text.{IsFileOf, IsGoodLine, IsPassed}
 use Rattle.report_text.specs.Report.{ReportValue}
 use Rattle.report_text.specs.Rows.{report_lines}
 use Rattle.cpog_app.specs.declared.refusal.Refusal.TheVariants as refusal

@@ -4,11 +4,11 @@ use Rattle.cpog_defs.specs.Orders.{Order}
 use Rattle.cpog_defs.specs.Scenarios.{Scenario, IsBefore, IsLeastCyclic, AreOrdersOf}
 use Rattle.cpog_defs.specs.Codes.{AreCodes, open_patterns}
 use Rattle.cpog_defs.specs.Encodings.{Encoding, FitsScenarios, Encodes, HasEncoding}
-use Rattle.pg_algebra.specs.declared.expr.Expr.{Expr}
-use Rattle.pg_algebra.specs.Meaning.{graph_of}
-use Rattle.pg_text.specs.declared.statement.Statement.{Statement}
-use Rattle.pg_text.specs.declared.statement.Statement.TheVariants as statement
-use Rattle.pg_text.specs.Contents.{Contents}
+use Rattle.plain_text.specs.declared.expr.Expr.{Expr}
+use Rattle.plain_text.specs.Meaning.{graph_of}
+use Rattle.plain_text.specs.declared.statement.Statement.{Statement}
+use Rattle.plain_text.specs.declared.statement.Statement.TheVariants as statement
+use Rattle.plain_text.specs.Contents.{Contents}
 use Rattle.report_text.specs.declared.bound.Bound.{Bound}
 use Rattle.report_text.specs.declared.bound.Bound.TheVariants.{Minimum}
 use Rattle.report_text.specs.Report.{ReportValue, IsReport}

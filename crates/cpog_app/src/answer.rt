@@ -12,7 +12,7 @@ use crate::synthesis::{name_of, orders_of, report_of, scenarios_of};
 use crate::words::{Command, read_words};
 use cpog_base::{Counted, INPUT_LIMIT, Memory, Name, OpId, ScenId, Status};
 use cpog_outside::{ReadAllFault, Source, read_all};
-use pg_text::{File, FileFault, read_file};
+use plain_text::{File, FileFault, read_file};
 use report_text::write_report;
 use std::alloc::Global;
 

@@ -5,13 +5,13 @@ ghost use Rattle.std.specs.Prelude.{◌≡◌, ◌<◌, ◌≤◌, ℕ, ◌==◌
 ghost use Rattle.std.specs.FinSet as set;
 ghost use Rattle.cpog_defs.specs.Orders.{each_below};
 ghost use Rattle.cpog_base.specs.Arcs.{has_arc};
-ghost use Rattle.pg_algebra.specs.Meaning.{graph_of};
-ghost use Rattle.pg_algebra.specs.Shapes.{HasOpsBelow};
+ghost use Rattle.plain_text.specs.Meaning.{graph_of};
+ghost use Rattle.plain_text.specs.Shapes.{HasOpsBelow};
 ghost use Rattle.cpog_app.specs.Scenarios.{arcs_from, arcs_where, set_where, scenario_of, covering_scenario};
 
 use cpog_base::{Memory, OpId, OpSet, Order, Scenario, empty_sets};
 use order_reduce::covered_rows;
-use pg_algebra::Expr;
+use plain_text::Expr;
 use std::alloc::Global;
 
 /// The scenario of an expression, of so many operations as there may be.

@@ -1,3 +1,1 @@
 pub mod GraphLaws
-pub mod MeaningLemmas
-pub mod ShapeLemmas

@@ -1,4 +1,2 @@
 pub mod Graphs
 pub mod Algebra
-pub mod Meaning
-pub mod Shapes

@@ -1,15 +1,23 @@
-//! An expression is a tree whose leaves are operations. Of graphs that are written in a row, one list is made: a row
-//! of overlays is one `Overlay`, and a row of arrows is one `Sequence`.
+//! An expression is a tree whose leaves are operations and earlier graphs. Of graphs that are written in a row, one
+//! list is made: a row of overlays is one `Overlay`, and a row of arrows is one `Sequence`.
 ghost use Rattle.std.specs.Prelude.{◌≡◌, ◌≤◌, length};
 
-use sqlite_items::Items;
+use crate::Cond;
+use cpog_base::Name;
+use sqlite_items::{Boxed as Box, Items};
 
-/// A graph over numbered operations (Mokhov and Khomenko 2014).
+/// A parameterised graph over numbered operations (Mokhov and Khomenko 2014).
 #[derive(Drop)]
 #[cycle(expr)]
 pub enum Expr {
+    /// The graph without an operation.
+    Empty,
     /// One operation, by its number.
     Op(u32),
+    /// The earlier graph of this name.
+    Graph(Name),
+    /// The graph where the condition is true, else the empty one.
+    When(Box<Cond>, Box<Expr>),
     /// All graphs of the list side by side, written with `+`.
     Overlay(ExprList),
     /// All graphs of the list, and arcs from each to the later ones, written with `->`.

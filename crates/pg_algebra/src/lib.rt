@@ -1,10 +1,13 @@
-//! The trees of graphs over numbered operations, and the graph that each stands for. It stands below the reader of the
-//! graph text and everything that gives a tree a meaning. It promises that a list keeps its members, and that the graphs
-//! of the trees are the algebra of Mokhov and Khomenko (Algebra of Parameterised Graphs, 2014).
+//! Parameterised graphs (Mokhov and Khomenko, Algebra of Parameterised Graphs, 2014): the trees of conditions over named
+//! parameters, and the trees of graphs over numbered operations. It stands above the base types and below the reader of
+//! the graph text and everything that gives a tree a meaning. It promises that a list keeps its members, and that graphs
+//! obey the laws of the algebra.
 #![tactic(auto)]
 
+mod cond;
 mod expr;
 mod laws;
 
+pub use cond::{Cond, CondList};
 pub use expr::{Expr, ExprList};
-pub use laws::{algebra_of_graphs, vertices_below, vertices_occur};
+pub use laws::algebra_of_graphs;

@@ -1,7 +1,7 @@
 use Rattle.std.proofs.Common.{◌≡◌, sym, subst}
 use Rattle.cpog_base.specs.declared.status.Status.TheVariants as status
-use Rattle.pg_text.specs.Lines.{graph_lines, IsFirstBad}
-use Rattle.pg_text.specs.Text.{IsGoodLine}
+use Rattle.plain_text.specs.Lines.{graph_lines, IsFirstBad}
+use Rattle.plain_text.specs.Text.{IsGoodLine}
 use Rattle.cpog_app.specs.declared.answer.Answer.{Answer}
 use Rattle.cpog_app.specs.declared.refusal.Refusal.TheVariants as refusal
 use Rattle.cpog_app.specs.Refusal.{refusal_text}

@@ -1,6 +1,6 @@
 use Rattle.std.proofs.Common.{◌≡◌, ◌<◌, ◌∙◌, ℕ, List, Some, slice_get, length, sym, ap, ap₂, subst, arith}
 use Rattle.cpog_base.specs.declared.status.Status.TheVariants as status
-use Rattle.pg_text.specs.declared.statement.Numbered.{Numbered}
+use Rattle.plain_text.specs.declared.statement.Numbered.{Numbered}
 use Rattle.cpog_app.specs.declared.answer.Answer.{Answer}
 use Rattle.cpog_app.specs.declared.refusal.Refusal.TheVariants as refusal
 use Rattle.cpog_app.specs.Refusal.{refusal_text}

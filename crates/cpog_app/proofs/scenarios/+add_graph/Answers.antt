@@ -5,12 +5,12 @@ use Rattle.std.specs.List.{AllByRecursion}
 use Rattle.std.specs.Ordering.{nat_cmp}
 use Rattle.std.specs.Cmp.{nat_cmp_total}
 use Rattle.std.specs.FinSet as set
-use Rattle.pg_algebra.specs.declared.expr.Expr.{Expr}
+use Rattle.plain_text.specs.declared.expr.Expr.{Expr}
 use Rattle.pg_algebra.specs.Graphs.{Graph}
-use Rattle.pg_algebra.specs.Meaning.{graph_of, overlay_all, sequence_all}
-use Rattle.pg_algebra.specs.Shapes.{HasOpsBelow}
-use Rattle.pg_algebra.proofs.MeaningLemmas.{graph_of-Overlay, graph_of-Sequence}
-use Rattle.pg_algebra.proofs.ShapeLemmas.{HasOpsBelow-Overlay, HasOpsBelow-Sequence}
+use Rattle.plain_text.specs.Meaning.{graph_of, overlay_all, sequence_all}
+use Rattle.plain_text.specs.Shapes.{HasOpsBelow}
+use Rattle.plain_text.proofs.MeaningLemmas.{graph_of-Overlay, graph_of-Sequence}
+use Rattle.plain_text.proofs.ShapeLemmas.{HasOpsBelow-Overlay, HasOpsBelow-Sequence}
 use Rattle.cpog_app.proofs.WalkedLemmas.{split_item, vertices_step, arcs_overlay, arcs_sequence, arcs_vertex}
 use Rattle.cpog_app.proofs.scenarios.+add_graph.Goals as goal
 

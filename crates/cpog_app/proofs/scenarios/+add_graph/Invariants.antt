@@ -1,8 +1,8 @@
 use Rattle.std.proofs.Common.{◌≡◌, ◌≤◌, ◌||◌, ◌&&◌, ℕ, drop, length, slice_index_or}
 use Rattle.std.specs.List.{AllByRecursion}
 use Rattle.std.specs.FinSet as set
-use Rattle.pg_algebra.specs.Meaning.{graph_of, overlay_all, sequence_all}
-use Rattle.pg_algebra.specs.Shapes.{HasOpsBelow}
+use Rattle.plain_text.specs.Meaning.{graph_of, overlay_all, sequence_all}
+use Rattle.plain_text.specs.Shapes.{HasOpsBelow}
 use Rattle.cpog_app.proofs.scenarios.+add_graph.Given as goal
 
 abbrev pub decreases-add_graph : goal.decreases-add_graph

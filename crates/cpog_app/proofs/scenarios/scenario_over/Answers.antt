@@ -2,7 +2,7 @@ use Rattle.std.proofs.Common.{◌≡◌, ◌∙◌, Bool, ℕ, sym, subst, lengt
 use Rattle.std.specs.Prelude.{IfOk}
 use Rattle.std.specs.FinSet as set
 use Rattle.cpog_defs.specs.Scenarios.{Scenario}
-use Rattle.pg_algebra.specs.Meaning.{graph_of}
+use Rattle.plain_text.specs.Meaning.{graph_of}
 use Rattle.cpog_app.proofs.ArcLemmas.{gathered, ends_of, same_scenario}
 use Rattle.cpog_app.proofs.scenarios.scenario_over.Goals as goal
 

@@ -1,5 +1,5 @@
 use Rattle.std.proofs.Common.{◌≡◌, ℕ, length, subst, sym, ap, ◌∙◌, arith}
-use Rattle.pg_text.specs.Text.{IsFile}
+use Rattle.plain_text.specs.Text.{IsFile}
 use Rattle.report_text.specs.Report.{IsReport}
 use Rattle.cpog_app.specs.Synthesis.{IsSynthesis}
 use Rattle.cpog_app.proofs.ReportLemmas.{orders_each, orders_alike, same_count, report_is_lawful, report_is_synthesis}

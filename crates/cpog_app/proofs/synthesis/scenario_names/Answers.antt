@@ -1,5 +1,5 @@
 use Rattle.std.proofs.Common.{◌≡◌, ◌++◌, ◌∷◌, [], ap, ap₂, sym, ◌∙◌}
-use Rattle.pg_text.specs.declared.statement.Numbered.{Numbered}
+use Rattle.plain_text.specs.declared.statement.Numbered.{Numbered}
 use Rattle.cpog_app.specs.Synthesis.{name_of}
 use Rattle.cpog_app.proofs.ListLemmas.{map_take_more, some_at}
 use Rattle.cpog_app.proofs.synthesis.scenario_names.Goals as goal

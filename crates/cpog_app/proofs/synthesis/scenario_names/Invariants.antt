@@ -1,6 +1,6 @@
 use Rattle.std.proofs.Common.{◌≡◌, map, take}
 use Rattle.cpog_app.specs.Synthesis.{name_of}
-use Rattle.pg_text.specs.declared.statement.Numbered.{Numbered}
+use Rattle.plain_text.specs.declared.statement.Numbered.{Numbered}
 use Rattle.cpog_app.proofs.synthesis.scenario_names.Given as goal
 
 abbrev pub invariant-loop-i : goal.invariant-loop-i

@@ -1,6 +1,6 @@
 use Rattle.std.proofs.Common.{◌≡◌, ◌++◌, ◌∷◌, [], ℕ, length, ap, ap₂, sym, ◌∙◌}
-use Rattle.pg_algebra.specs.Meaning.{graph_of}
-use Rattle.pg_text.specs.declared.statement.Numbered.{Numbered}
+use Rattle.plain_text.specs.Meaning.{graph_of}
+use Rattle.plain_text.specs.declared.statement.Numbered.{Numbered}
 use Rattle.cpog_app.specs.Scenarios.{scenario_of}
 use Rattle.cpog_app.specs.Synthesis.{expr_of}
 use Rattle.cpog_app.proofs.ListLemmas.{map_take_more, some_at}

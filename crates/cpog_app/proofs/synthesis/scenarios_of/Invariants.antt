@@ -1,6 +1,6 @@
 use Rattle.std.proofs.Common.{◌≡◌, map, take, length}
-use Rattle.pg_algebra.specs.Meaning.{graph_of}
-use Rattle.pg_text.specs.declared.statement.Numbered.{Numbered}
+use Rattle.plain_text.specs.Meaning.{graph_of}
+use Rattle.plain_text.specs.declared.statement.Numbered.{Numbered}
 use Rattle.cpog_app.specs.Scenarios.{scenario_of}
 use Rattle.cpog_app.specs.Synthesis.{expr_of}
 use Rattle.cpog_app.proofs.synthesis.scenarios_of.Given as goal

@@ -1,8 +1,0 @@
-pub mod Lines
-pub mod Tokens
-pub mod Faults
-pub mod Grammar
-pub mod Reading
-pub mod Contents
-pub mod Text
-pub mod Stored

@@ -1,0 +1,12 @@
+pub mod Runs
+pub mod MeaningLemmas
+pub mod ShapeLemmas
+pub mod TokenLaws
+pub mod GrammarLaws
+pub mod SeqSteps
+pub mod SumSteps
+pub mod NameLemmas
+pub mod FileLaws
+pub mod TextLaws
+pub mod LineSteps
+pub mod TextSteps

@@ -1,0 +1,10 @@
+pub mod Meaning
+pub mod Shapes
+pub mod Lines
+pub mod Tokens
+pub mod Faults
+pub mod Grammar
+pub mod Reading
+pub mod Contents
+pub mod Text
+pub mod Stored
