@@ -4,6 +4,7 @@ use Rattle.std.proofs.Common.{sym}
 use Rattle.std.proofs.lemmas.Bool.{eq-eqb, eqb-true, false_from_ne_true}
 use Rattle.pg_algebra.specs.Graphs.{Graph}
 use Rattle.pg_algebra.specs.Algebra.{AlgebraOfGraphs}
+use Rattle.pg_algebra.proofs.ListLaws.{overlay-vertices, overlay-arcs, sequence-vertices, arc_comes, arc_goes}
 
 -- graphs with the same vertices and the same arcs are one
 pub same_graph : (p q : Graph) → ((v : ℕ) → p.vertex v ≡ q.vertex v) → ((u v : ℕ) → p.arc u v ≡ q.arc u v) → p ≡ q
@@ -93,6 +94,24 @@ decompose false false false true false true false = refl
 decompose false false false true false false false = refl
 decompose false false false false e f g = refl
 
+spread_or : (b x y : Bool) → (b && (x || y)) ≡ ((b && x) || (b && y))
+spread_or true x y = refl
+spread_or false x y = refl
+
+spread_seq : (b x y d e : Bool) → (b && ((x || y) || (d && e))) ≡ (((b && x) || (b && y)) || ((b && d) && (b && e)))
+spread_seq true x y d e = refl
+spread_seq false x y d e = refl
+
+and_assoc : (a b x : Bool) → ((a && b) && x) ≡ (a && (b && x))
+and_assoc true b x = refl
+and_assoc false b x = refl
+
+either : (a b x : Bool) → ((a || b) && x) ≡ ((a && x) || (b && x))
+either true true true = refl
+either true true false = refl
+either true false x = sym (none x)
+either false b x = refl
+
 pub algebra_of_graphs : AlgebraOfGraphs
 algebra_of_graphs = record {
   sequence_arc = λ u v. rw (eq-eqb u u refl, eq-eqb v v refl) refl;
@@ -107,6 +126,16 @@ algebra_of_graphs = record {
   over_overlay_right = λ p q r. same_graph _ _ (λ v. spread_p (p.vertex v) (q.vertex v) (r.vertex v)) (λ u v. right_over (p.arc u v) (q.arc u v) (r.arc u v) (p.vertex u) (q.vertex v) (r.vertex v));
   over_overlay_left = λ p q r. same_graph _ _ (λ v. spread_r (p.vertex v) (q.vertex v) (r.vertex v)) (λ u v. left_over (p.arc u v) (q.arc u v) (r.arc u v) (p.vertex u) (q.vertex u) (r.vertex v));
   decomposes = λ p q r. same_graph _ _ (λ v. three (p.vertex v) (q.vertex v) (r.vertex v)) (λ u v. decompose (p.arc u v) (q.arc u v) (r.arc u v) (p.vertex u) (q.vertex v) (q.vertex u) (r.vertex v));
+  when_false = λ p. refl;
+  when_true = λ p. refl;
+  when_overlay = λ b p q. same_graph _ _ (λ v. spread_or b (p.vertex v) (q.vertex v)) (λ u v. spread_or b (p.arc u v) (q.arc u v));
+  when_sequence = λ b p q. same_graph _ _ (λ v. spread_or b (p.vertex v) (q.vertex v)) (λ u v. spread_seq b (p.arc u v) (q.arc u v) (p.vertex u) (q.vertex v));
+  when_both = λ a b p. same_graph _ _ (λ v. and_assoc a b (p.vertex v)) (λ u v. and_assoc a b (p.arc u v));
+  when_either = λ a b p. same_graph _ _ (λ v. either a b (p.vertex v)) (λ u v. either a b (p.arc u v));
+  overlay_vertices = overlay-vertices;
+  overlay_arcs = overlay-arcs;
+  sequence_vertices = sequence-vertices;
+  sequence_arcs = λ ps u v. (arc_comes ps u v, arc_goes ps u v);
 }
   where
     spread_p : (a b c : Bool) → (a || (b || c)) ≡ ((a || b) || (a || c))
