@@ -1,7 +1,7 @@
 -- Conditions over one code bit.
-use Rattle.std.proofs.Common.{◌≡◌, ◌≢◌, ℕ, zero, suc, ◌+◌, ◌<◌, ◌≤◌, ◌^◌, Bool, true, false, not, List, [], ◌∷◌, ◌++◌, length, get_or, slice_index_or, slice_set, refl, sym, ap, ap₂, ◌∙◌, subst, arith, inl, inr, below_more, if◌then◌else◌, IsTrue, Some, slice_get}
+use Rattle.std.proofs.Common.{◌≡◌, ◌≢◌, ℕ, zero, suc, ◌+◌, ◌<◌, ◌≤◌, ◌^◌, Bool, true, false, List, [], ◌∷◌, length, slice_index_or, slice_set, refl, sym, ap, ◌∙◌, arith, below_more, Some, slice_get}
 use Rattle.std.specs.List.{All, AllPairs, list_any}
-use Rattle.std.proofs.lemmas.Bool.{cases_eq, both_ways}
+use Rattle.std.proofs.lemmas.Bool.{both_ways}
 use Rattle.std.proofs.lemmas.Option.{none-some}
 use Rattle.std.proofs.lemmas.List.{length-map, get_or-set_same, get_or-set_other}
 use Rattle.cpog_defs.specs.declared.types.Bit3.{Bit3}
@@ -14,9 +14,7 @@ use Rattle.cpog_defs.specs.Gates.{ref_value}
 use Rattle.cpog_defs.specs.Encodings.{Encoding, AgreesWithColumns}
 use Rattle.cpog_app.specs.Conditions.{one_bit_ref, numbers, IsOneBitEncoding}
 use Rattle.cpog_defs.specs.declared.types.Ref.{Ref}
-use Rattle.cpog_defs.specs.declared.types.Ref.TheVariants.{Const, Signal}
-use Rattle.cpog_defs.specs.declared.types.OpId.{OpId}
-use Rattle.cpog_defs.specs.Graphs.{ConditionalGraph, arc_ref}
+use Rattle.cpog_defs.specs.declared.types.Ref.TheVariants.{Const}
 
 -- a list with an element that passes has an element
 pub some_element : {X : Type 0} (p : X → Bool) (xs : List X) → list_any p xs ≡ true → 0 < length xs

@@ -1,5 +1,5 @@
 -- The controller that stands in a printed report.
-use Rattle.std.proofs.Common.{◌≡◌, ◌↔◌, ℕ, Bool, IsTrue, List, length, sym, ap, subst, ◌∙◌, arith}
+use Rattle.std.proofs.Common.{◌≡◌, ◌↔◌, ℕ, IsTrue, List, length, sym, ap, subst, ◌∙◌, arith}
 use Rattle.std.specs.List.{All}
 use Rattle.cpog_defs.specs.Orders.{IsOrderOf}
 use Rattle.cpog_defs.specs.Encodings.{IsEncoding}

@@ -1,14 +1,13 @@
 -- The report of a file is lawful, and is its synthesis.
-use Rattle.std.proofs.Common.{◌≡◌, ◌≢◌, ℕ, zero, suc, ◌+◌, ◌-◌, ◌<◌, ◌≤◌, ◌⊎◌, Bool, true, false, IsTrue, List, [], ◌∷◌, ◌++◌, length, map, take, IsSomeAnd, slice_index_or, slice_get, Some, if◌then◌else◌, refl, sym, ap, ◌∙◌, subst, arith, inl, inr, length-append}
-use Rattle.std.specs.List.{All, AllPairs, AllByRecursion, Contains}
+use Rattle.std.proofs.Common.{◌≡◌, ◌≢◌, ℕ, zero, suc, ◌+◌, ◌-◌, ◌<◌, ◌≤◌, Bool, true, false, IsTrue, List, [], ◌∷◌, ◌++◌, length, map, take, IsSomeAnd, slice_index_or, slice_get, Some, if◌then◌else◌, refl, sym, ap, ◌∙◌, subst, arith, inl, inr, length-append}
+use Rattle.std.specs.List.{All, AllPairs}
 use Rattle.std.proofs.lemmas.Bool.{cases_lt, both_ways, or_cases, and_parts}
 use Rattle.std.proofs.lemmas.Option.{none-some, same_Some}
 use Rattle.std.proofs.lemmas.List.{get_or_append_left, get_or-append_right, length-map, length-replicate}
 use Rattle.std.proofs.lemmas.List.Elements.{All-from_recursion}
-use Rattle.std.specs.FinSet as set
 use Rattle.cpog_defs.specs.declared.types.OpId.{OpId}
-use Rattle.cpog_defs.specs.Orders.{Order, has, is_before, is_covered, IsOrder, IsOrderOf, each_below, arc_of}
-use Rattle.cpog_defs.specs.Scenarios.{Scenario, IsScenario, HasArc, IsBefore, IsOrderOfScenario, IsLeastCyclic, AreOrdersOf}
+use Rattle.cpog_defs.specs.Orders.{Order, is_before, is_covered, IsOrderOf, each_below, arc_of}
+use Rattle.cpog_defs.specs.Scenarios.{Scenario, HasArc, IsBefore, IsOrderOfScenario, IsLeastCyclic, AreOrdersOf}
 use Rattle.cpog_base.specs.Arcs.{has_arc}
 use Rattle.cpog_base.proofs.ArcLemmas.{has_from_contains}
 use Rattle.cpog_merge.specs.Table.{count_of}

@@ -1,5 +1,5 @@
 -- What a report says of the file that was read.
-use Rattle.std.specs.Prelude.{◌≡◌, ℕ, ◌<◌, ◌≤◌, ◌^◌, List, [], map, length, slice_get, Some, IsSomeAnd}
+use Rattle.std.specs.Prelude.{◌≡◌, ℕ, ◌<◌, ◌≤◌, ◌^◌, List, map, length, slice_get, Some, IsSomeAnd}
 use Rattle.cpog_defs.specs.Orders.{Order}
 use Rattle.cpog_defs.specs.Scenarios.{Scenario, IsBefore, IsLeastCyclic, AreOrdersOf}
 use Rattle.cpog_defs.specs.Codes.{AreCodes, open_patterns}

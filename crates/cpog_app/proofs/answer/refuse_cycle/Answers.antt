@@ -1,11 +1,11 @@
-use Rattle.std.proofs.Common.{◌≡◌, ◌<◌, ◌∙◌, ℕ, List, Some, slice_get, length, sym, ap, ap₂, subst, arith}
+use Rattle.std.proofs.Common.{◌≡◌, ◌∙◌, Some, slice_get, length, sym, ap, ap₂, subst, arith}
 use Rattle.cpog_base.specs.declared.status.Status.TheVariants as status
 use Rattle.plain_text.specs.declared.statement.Numbered.{Numbered}
 use Rattle.cpog_app.specs.declared.answer.Answer.{Answer}
 use Rattle.cpog_app.specs.declared.refusal.Refusal.TheVariants as refusal
 use Rattle.cpog_app.specs.Refusal.{refusal_text}
 use Rattle.cpog_app.specs.Synthesis.{name_of, scenario_names_of}
-use Rattle.cpog_app.specs.Allowed.{IsFileAnswer, IsCyclicAnswer}
+use Rattle.cpog_app.specs.Allowed.{IsFileAnswer}
 use Rattle.cpog_app.proofs.ListLemmas.{if_ok_map, some_at, get_map}
 use Rattle.cpog_app.proofs.ReportLemmas.{cyclic_below}
 use Rattle.cpog_app.proofs.answer.refuse_cycle.Goals as goal

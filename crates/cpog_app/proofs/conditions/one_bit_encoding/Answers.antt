@@ -1,5 +1,4 @@
-use Rattle.std.proofs.Common.{◌≡◌, rules, length, ap, sym, ◌∙◌}
-use Rattle.cpog_defs.specs.Encodings.{Encoding, IsEncoding}
+use Rattle.std.proofs.Common.{◌≡◌, rules, length}
 use Rattle.cpog_merge.specs.Table.{count_of}
 use Rattle.cpog_merge.proofs.FitLemmas.{fits_is_agreeing_lem}
 use Rattle.cpog_app.specs.Conditions.{IsOneBitEncoding, numbers}

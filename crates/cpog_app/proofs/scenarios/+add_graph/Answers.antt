@@ -1,11 +1,10 @@
-use Rattle.std.proofs.Common.{◌≡◌, ◌||◌, ◌&&◌, ℕ, List, ◌∷◌, drop, length, slice_index_or, sym, subst, ap, ap₂, ◌∙◌, arith, ◌+◌}
+use Rattle.std.proofs.Common.{◌≡◌, ◌||◌, ◌&&◌, ℕ, ◌∷◌, drop, length, slice_index_or, sym, subst, ap, ap₂, ◌∙◌, ◌+◌}
 use Rattle.std.specs.Prelude.{Bool, false}
 use Rattle.std.proofs.Math.Bool.{or-false}
 use Rattle.std.specs.List.{AllByRecursion}
 use Rattle.std.specs.Ordering.{nat_cmp}
 use Rattle.std.specs.Cmp.{nat_cmp_total}
 use Rattle.std.specs.FinSet as set
-use Rattle.plain_text.specs.declared.expr.Expr.{Expr}
 use Rattle.pg_algebra.specs.Graphs.{Graph}
 use Rattle.plain_text.specs.Meaning.{graph_of, overlay_all, sequence_all}
 use Rattle.plain_text.specs.Shapes.{HasOpsBelow}

@@ -1,10 +1,10 @@
-use Rattle.std.proofs.Common.{◌≡◌, ◌<◌, ◌∙◌, Bool, ℕ, IsTrue, sym, ap, ap₂, subst, length, slice_index_or, arith}
+use Rattle.std.proofs.Common.{◌≡◌, ◌<◌, ◌∙◌, Bool, ℕ, IsTrue, sym, ap, subst, length, slice_index_or, arith}
 use Rattle.std.specs.Prelude.{IfOk}
 use Rattle.std.specs.FinSet as set
 use Rattle.std.proofs.lemmas.Bool.{and_parts}
 use Rattle.cpog_defs.specs.Orders.{is_covered, is_before}
 use Rattle.cpog_defs.specs.Scenarios.{Scenario}
-use Rattle.cpog_app.specs.Scenarios.{arcs_where, set_where}
+use Rattle.cpog_app.specs.Scenarios.{arcs_where}
 use Rattle.cpog_app.proofs.ArcLemmas.{scenario_with, same_scenario, set_where-all}
 use Rattle.cpog_app.proofs.scenarios.covering_scenario.Goals as goal
 

@@ -1,4 +1,4 @@
-use Rattle.std.proofs.Common.{◌≡◌, ◌<◌, ◌++◌, ℕ, List, IsTrue, ap, ap₂, sym, ◌∙◌, slice_index_or, length, arith, add-one}
+use Rattle.std.proofs.Common.{◌<◌, ◌++◌, ℕ, IsTrue, ap, sym, ◌∙◌, slice_index_or, length, arith, add-one}
 use Rattle.std.specs.Prelude.{Bool}
 use Rattle.std.specs.FinSet as set
 use Rattle.cpog_defs.specs.Scenarios.{Scenario}

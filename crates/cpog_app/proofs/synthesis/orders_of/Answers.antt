@@ -1,7 +1,5 @@
-use Rattle.std.proofs.Common.{◌≡◌, ◌<◌, ◌+◌, ◌∷◌, [], ◌++◌, ℕ, List, take, length, Some, slice_get, slice_index_or, sym, subst, ap, ◌∙◌, arith, refl}
+use Rattle.std.proofs.Common.{◌≡◌, ◌+◌, ◌∷◌, [], ◌++◌, take, sym, ap, ◌∙◌}
 use Rattle.std.proofs.lemmas.List.{take_more}
-use Rattle.cpog_defs.specs.Orders.{Order}
-use Rattle.cpog_defs.specs.Scenarios.{Scenario, AreOrdersOf}
 use Rattle.cpog_app.proofs.ReportLemmas.{orders_push, first_cyclic}
 use Rattle.cpog_app.proofs.synthesis.orders_of.Goals as goal
 

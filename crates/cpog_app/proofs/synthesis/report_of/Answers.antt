@@ -1,7 +1,5 @@
-use Rattle.std.proofs.Common.{◌≡◌, ℕ, length, subst, sym, ap, ◌∙◌, arith}
+use Rattle.std.proofs.Common.{◌≡◌, length, subst, sym, ap, ◌∙◌, arith}
 use Rattle.plain_text.specs.Text.{IsFile}
-use Rattle.report_text.specs.Report.{IsReport}
-use Rattle.cpog_app.specs.Synthesis.{IsSynthesis}
 use Rattle.cpog_app.proofs.ReportLemmas.{orders_each, orders_alike, same_count, report_is_lawful, report_is_synthesis}
 use Rattle.cpog_app.proofs.synthesis.report_of.Goals as goal
 
