@@ -4,4 +4,7 @@ pub mod ConditionLemmas
 pub mod ListLemmas
 pub mod ReportLemmas
 pub mod PrintedLemmas
+pub mod ReportAgreement
+pub mod CycleAgreement
+pub mod FileAgreement
 pub mod AgreeLemmas

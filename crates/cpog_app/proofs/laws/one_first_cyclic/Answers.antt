@@ -1,4 +1,4 @@
-use Rattle.cpog_app.proofs.AgreeLemmas as laws
+use Rattle.cpog_app.proofs.CycleAgreement as laws
 use Rattle.cpog_app.proofs.laws.one_first_cyclic.Goals as goal
 
 pub returns : goal.returns
