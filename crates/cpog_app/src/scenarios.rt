@@ -3,7 +3,6 @@
 //! costs as much as one of a short one. A printed scenario has the covering pairs of its order as arcs.
 ghost use Rattle.std.specs.Prelude.{◌≡◌, ◌<◌, ◌≤◌, ℕ, ◌==◌, ◌&&◌, ◌||◌, ◌++◌, IsTrue, false, [], length, slice_index_or, slice_set, replicate, IfOk, OnOk};
 ghost use Rattle.std.specs.FinSet as set;
-ghost use Rattle.cpog_defs.specs.Orders.{each_below};
 ghost use Rattle.cpog_base.specs.Arcs.{has_arc};
 ghost use Rattle.plain_text.specs.Meaning.{graph_of};
 ghost use Rattle.plain_text.specs.Shapes.{HasOpsBelow};

@@ -1,10 +1,10 @@
 //! The steps of the handshake machine.
-ghost use Rattle.std.specs.Prelude.{◌≡◌, ◌≢◌, ◌↔◌, ℕ, ◌<◌, ◌≤◌, IsTrue, List, length, slice_get, Some, IfSome, IfNone};
+ghost use Rattle.std.specs.Prelude.{◌≡◌, ◌≢◌, ◌↔◌, ℕ, ◌<◌, IsTrue, List, length, slice_get, Some, IfSome, IfNone};
 ghost use Rattle.std.specs.List.{AllPairs};
 ghost use Rattle.std.specs.FinSet as set;
 ghost use Rattle.cpog_defs.specs.Orders as orders_defs;
 ghost use Rattle.handshake_eqs.specs.declared.machine.Machine.{Machine};
-ghost use Rattle.handshake_eqs.specs.Machines.{Step, IsReady, AllAcked, IsKept, IsMachineOf, IsReturned};
+ghost use Rattle.handshake_eqs.specs.Machines.{Step, IsReady, IsKept, IsMachineOf, IsReturned};
 
 use crate::{Event, Machine};
 use cpog_base::{OpId, OpSet, Order, ScenId};

@@ -23,4 +23,4 @@ pub use laws::{
 };
 pub use module::Module;
 pub use signal_name::SignalName;
-pub use writing::{put_module, write_module};
+pub use writing::{append_module, write_module};

@@ -1,5 +1,5 @@
 //! The text of a module, line by line into one buffer.
-ghost use Rattle.std.specs.Prelude.{◌≡◌, ◌++◌, OnOk, IfOk, string_bytes};
+ghost use Rattle.std.specs.Prelude.{◌≡◌, ◌++◌, IfOk, string_bytes};
 ghost use Rattle.line_text.specs.Lines.{text_of};
 ghost use Rattle.netlist_verilog.specs.Rows.{module_lines};
 
@@ -9,27 +9,34 @@ use crate::equations::{put_arcs, put_conditions, put_done, put_gates, put_idle, 
 use cpog_base::Memory;
 use std::alloc::Global;
 
-/// The text of a module, in the time of its length.
+/// The text of a module, in the time of its length and of the pairs of its operations.
+///
+/// # Errors
+///
+/// `Memory` where none is left.
 pub fn write_module(alloc: Global, design: &Module) -> Result<Vec<u8>, Memory>
     ensures { IfOk result (λ text. text.items ≡ text_of (module_lines design.now)) }
 {
-    let mut out = String::new(alloc);
-    put_module(&mut out, design)?;
+    let out = append_module(String::new(alloc), design)?;
     Ok(out.into_bytes())
 }
 
-/// Writes the text of a module behind another. Where memory was wanting, a part of it may be written.
-pub fn put_module(out: &mut String, design: &Module) -> Result<(), Memory>
-    ensures { OnOk result (string_bytes out.new ≡ string_bytes out.old ++ text_of (module_lines design.now)) }
+/// This text with the text of a module behind it, in one buffer. After `Memory` the text is given up.
+///
+/// # Errors
+///
+/// `Memory` where none is left.
+pub fn append_module(mut text: String, design: &Module) -> Result<String, Memory>
+    ensures { IfOk result (λ whole. string_bytes whole ≡ string_bytes text ++ text_of (module_lines design.now)) }
 {
-    put_ports(out, design)?;
-    put_wires(out, design)?;
-    put_gates(out, design)?;
-    put_conditions(out, design)?;
-    put_arcs(out, design)?;
-    put_requests(out, design)?;
-    put_done(out, design)?;
-    put_idle(out, design)?;
-    out.push_str("endmodule\n")?;
-    Ok(())
+    put_ports(&mut text, design)?;
+    put_wires(&mut text, design)?;
+    put_gates(&mut text, design)?;
+    put_conditions(&mut text, design)?;
+    put_arcs(&mut text, design)?;
+    put_requests(&mut text, design)?;
+    put_done(&mut text, design)?;
+    put_idle(&mut text, design)?;
+    text.push_str("endmodule\n")?;
+    Ok(text)
 }

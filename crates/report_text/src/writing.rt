@@ -12,11 +12,11 @@ use crate::{Bound, Report};
 use cpog_base::{Memory, Names, OpId, OpSet, Scenario};
 use cpog_defs::types::{Gate, Ref};
 use gate_core::ConditionalGraph;
-use netlist_verilog::{Module, SignalName, put_module};
+use netlist_verilog::{Module, SignalName, append_module};
 use std::alloc::{AllocError, Global};
 use std::fmt::Write;
 
-/// The text of a report, in the time of its length.
+/// The text of a report, in the time of its length and of the pairs of its operations.
 ///
 /// # Errors
 ///
@@ -33,8 +33,8 @@ pub fn write_report(alloc: Global, report: &Report) -> Result<Vec<u8>, Memory>
     put_ops(&mut out, bits, report.names(), encoding.graph())?;
     put_arcs(&mut out, bits, report.names(), encoding.graph())?;
     put_end(&mut out, report.bound())?;
-    put_netlist(&mut out, report.design())?;
-    Ok(out.into_bytes())
+    let text = append_netlist(out, report.design())?;
+    Ok(text.into_bytes())
 }
 
 fn put_head(out: &mut String, report: &Report) -> Result<(), AllocError>
@@ -249,9 +249,10 @@ fn put_end(out: &mut String, bound: Bound) -> Result<(), AllocError>
     out.push_str("evidence zero\nopen none\n")
 }
 
-fn put_netlist(out: &mut String, design: &Module) -> Result<(), Memory>
-    ensures { OnOk result (string_bytes out.new ≡ string_bytes out.old ++ text_of (netlist_lines design.now)) }
+/// This text with the line `netlist` and the module behind it.
+fn append_netlist(mut text: String, design: &Module) -> Result<String, Memory>
+    ensures { IfOk result (λ whole. string_bytes whole ≡ string_bytes text ++ text_of (netlist_lines design.now)) }
 {
-    out.push_str("netlist\n")?;
-    put_module(out, design)
+    text.push_str("netlist\n")?;
+    append_module(text, design)
 }

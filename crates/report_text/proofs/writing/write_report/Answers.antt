@@ -23,4 +23,4 @@ returns c =
     c.in_ok-put_ops.ensures
     c.in_ok-put_arcs.ensures
     c.in_ok-put_end.ensures
-    c.in_ok-put_netlist.ensures
+    c.in_ok-text.ensures

@@ -1,5 +1,5 @@
 use Rattle.netlist_verilog.proofs.WritingLemmas.{module_written}
-use Rattle.netlist_verilog.proofs.writing.put_module.Goals as goal
+use Rattle.netlist_verilog.proofs.writing.append_module.Goals as goal
 
 pub returns : goal.returns
 returns c =
