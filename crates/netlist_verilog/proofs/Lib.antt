@@ -9,3 +9,5 @@ pub mod ConditionRowLemmas
 pub mod RequestRowLemmas
 pub mod RowLemmas
 pub mod LawLemmas
+pub mod OwnLemmas
+pub mod CallingLemmas

@@ -62,7 +62,7 @@ signal_passes inputs n lt = elim (signal_cases inputs n) [
   | inr h ↦ subst (AllPass continues_name) (sym h.1) (refl, decimal_continues (n - inputs) (omega arith))
 ]
 
-signal_is : (inputs m n : ℕ) → m < 2 ^ 64 → n < 2 ^ 64 → signal_text inputs m ≡ signal_text inputs n → m ≡ n
+pub signal_is : (inputs m n : ℕ) → m < 2 ^ 64 → n < 2 ^ 64 → signal_text inputs m ≡ signal_text inputs n → m ≡ n
 signal_is inputs m n hm hn e = elim (signal_cases inputs m) [
   | inl a ↦ elim (signal_cases inputs n) [
     | inl b ↦ decimal_injective m n hm hn (tails 120 120 _ _ (sym a.1 ∙ e ∙ b.1))

@@ -19,6 +19,15 @@ value at (And f g) = value at f && value at g
 value at (Xor f g) = if value at f then not (value at g) else value at g
 value at (Or f g) = value at f || value at g
 
+-- each wire that the formula reads is one of these
+abbrev pub ReadsOnly : (Wire → Type 0) → Formula → Type 0
+ReadsOnly P (Bit b) = Unit {0}
+ReadsOnly P (Read w) = P w
+ReadsOnly P (Not f) = ReadsOnly P f
+ReadsOnly P (And f g) = ReadsOnly P f × ReadsOnly P g
+ReadsOnly P (Xor f g) = ReadsOnly P f × ReadsOnly P g
+ReadsOnly P (Or f g) = ReadsOnly P f × ReadsOnly P g
+
 -- which operators bind tighter: ~ before & before ^ before |
 abbrev pub tightness : Formula → ℕ
 tightness (Bit b) = 3

@@ -1,5 +1,5 @@
 -- What is proved of modules.
-use Rattle.std.specs.Prelude.{◌≡◌, ◌≢◌, ℕ, ◌<◌, Bool, length}
+use Rattle.std.specs.Prelude.{◌≡◌, ◌≢◌, ℕ, ◌<◌, Bool, ◌++◌, length}
 use Rattle.std.specs.List.{AllByRecursion}
 use Rattle.std.specs.FinSet as set
 use Rattle.cpog_defs.specs.Codes.{bit}
@@ -8,11 +8,11 @@ use Rattle.handshake_eqs.specs.declared.wires.Inputs.{Inputs}
 use Rattle.handshake_eqs.specs.Netlists.{Netlist}
 use Rattle.handshake_eqs.specs.Agreement.{request, done, idle}
 use Rattle.line_text.specs.Lines.{text_of}
-use Rattle.netlist_verilog.specs.Module.{ModuleValue, IsModule}
+use Rattle.netlist_verilog.specs.Module.{ModuleValue, IsModule, IsWireOf, called}
 use Rattle.netlist_verilog.specs.Wires.{Wire, Signal, Go, Acknowledge, Request, Done, Idle}
-use Rattle.netlist_verilog.specs.Formulas.{value}
+use Rattle.netlist_verilog.specs.Formulas.{value, ReadsOnly, Equation}
 use Rattle.netlist_verilog.specs.Equations.{table_formula, equations}
-use Rattle.netlist_verilog.specs.Rows.{module_lines}
+use Rattle.netlist_verilog.specs.Rows.{input_wires, output_wires, inner_wires, module_lines}
 
 -- the value of a gate's formula is the gate's value by its table
 abbrev pub FormulasAreTables : Type 0
@@ -46,3 +46,20 @@ LinesHoldNoFeed = (m : ModuleValue) → IsModule m → AllByRecursion (λ line. 
 -- two modules with the same text are one
 abbrev pub TextTellsModule : Type 0
 TextTellsModule = (a b : ModuleValue) → IsModule a → IsModule b → text_of (module_lines a) ≡ text_of (module_lines b) → a ≡ b
+
+-- two wires of a module that are called alike are one
+abbrev pub WiresAreTold : Type 0
+WiresAreTold = (m : ModuleValue) (w z : Wire) → IsModule m → IsWireOf m w → IsWireOf m z → called m w ≡ called m z → w ≡ z
+
+-- an equation over the wires of a module
+pub record IsEquationOf (m : ModuleValue) (e : Equation) : Type 0 where
+  pub assigned : IsWireOf m e.wire
+  pub read : ReadsOnly (IsWireOf m) e.formula
+
+-- what a module declares, assigns and reads are wires of it
+pub record HasItsWires (m : ModuleValue) : Type 0 where
+  pub declared : AllByRecursion (IsWireOf m) (input_wires m.netlist ++ (output_wires m.netlist ++ inner_wires m.netlist))
+  pub equations_over : AllByRecursion (IsEquationOf m) (equations m.netlist)
+
+abbrev pub ModulesHaveTheirWires : Type 0
+ModulesHaveTheirWires = (m : ModuleValue) → IsModule m → HasItsWires m

@@ -2,9 +2,10 @@
 use Rattle.std.specs.Prelude.{◌≡◌, ℕ, ◌<◌, ◌≤◌, IsTrue, List, length}
 use Rattle.std.specs.List.{All}
 use Rattle.cpog_base.specs.Names.{AreDistinct}
-use Rattle.cpog_defs.specs.Gates.{IsGateList}
+use Rattle.cpog_defs.specs.Gates.{IsGateList, signal_count}
 use Rattle.handshake_eqs.specs.Netlists.{Netlist, IsNetlist}
 use Rattle.line_text.specs.Words.{is_free_name}
+use Rattle.netlist_verilog.specs.Wires.{Wire, Signal, Go, Acknowledge, Request, Done, Idle, Condition, ArcCondition, wire_text}
 
 -- the names of the operations, and their netlist
 pub record ModuleValue : Type 0 where
@@ -25,3 +26,18 @@ pub record IsModule (m : ModuleValue) : Type 0 where
   pub few_gates : length m.netlist.gates.gates < 262144
   pub gates : IsGateList m.netlist.gates
   pub netlist : IsNetlist m.netlist
+
+-- the wires of a module: its signals, those of the handshake, and those of its operations and of two of these
+abbrev pub IsWireOf : ModuleValue → Wire → Type 0
+IsWireOf m (Signal n) = n < signal_count m.netlist.gates
+IsWireOf m Go = Unit {0}
+IsWireOf m (Acknowledge v) = v < length m.netlist.conditions
+IsWireOf m (Request v) = v < length m.netlist.conditions
+IsWireOf m Done = Unit {0}
+IsWireOf m Idle = Unit {0}
+IsWireOf m (Condition v) = v < length m.netlist.conditions
+IsWireOf m (ArcCondition u v) = (u < length m.netlist.conditions) × (v < length m.netlist.conditions)
+
+-- how a wire of the module is called
+abbrev pub called : ModuleValue → Wire → List ℕ
+called m w = wire_text m.netlist.gates.inputs m.names w

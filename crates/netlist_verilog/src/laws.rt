@@ -1,4 +1,4 @@
-ghost use Rattle.netlist_verilog.specs.Laws.{FormulasAreTables, EquationsGiveOutputs, EquationsSettle, LinesHoldNoFeed, TextTellsModule};
+ghost use Rattle.netlist_verilog.specs.Laws.{FormulasAreTables, EquationsGiveOutputs, EquationsSettle, LinesHoldNoFeed, TextTellsModule, WiresAreTold, ModulesHaveTheirWires};
 
 /// The value of a gate's formula is the gate's value by its table.
 pub fn formulas_are_tables()
@@ -23,4 +23,14 @@ pub fn lines_hold_no_feed()
 /// Two modules with the same text are the same module.
 pub fn text_tells_module()
     ensures { TextTellsModule }
+{}
+
+/// Two wires of a module that are called alike are the same wire.
+pub fn wires_are_told()
+    ensures { WiresAreTold }
+{}
+
+/// What a module declares, assigns and reads are wires of it.
+pub fn modules_have_their_wires()
+    ensures { ModulesHaveTheirWires }
 {}

@@ -19,7 +19,7 @@ mod writing;
 
 pub use laws::{
     equations_give_outputs, equations_settle, formulas_are_tables, lines_hold_no_feed,
-    text_tells_module,
+    modules_have_their_wires, text_tells_module, wires_are_told,
 };
 pub use module::Module;
 pub use signal_name::SignalName;
