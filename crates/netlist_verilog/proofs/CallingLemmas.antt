@@ -45,7 +45,7 @@ signal_kind inputs n lt = elim (signal_cases inputs n) [
   | inr h ↦ ap text_kind h.1 ∙ digits_no_o (decimal (n - inputs)) ((decimal_is_IsNumeral (n - inputs) (omega arith)).0.1)
 ]
 
-signal_fits : (m : ModuleValue) (n : ℕ) → IsModule m → IsWireOf m (Signal n) → n < 2 ^ 64
+pub signal_fits : (m : ModuleValue) (n : ℕ) → IsModule m → IsWireOf m (Signal n) → n < 2 ^ 64
 signal_fits m n is lt = omega (arith, lt, is.few_inputs, is.few_gates)
 
 kind_told : (m : ModuleValue) (w : Wire) → IsModule m → IsWireOf m w → text_kind (called m w) ≡ kind w

@@ -1,10 +1,9 @@
 -- No line of a module holds a line feed.
-use Rattle.std.proofs.Common.{◌≡◌, ◌≢◌, ℕ, zero, suc, ◌+◌, ◌-◌, ◌^◌, ◌<◌, ◌≤◌, Bool, true, false, cond, eqb, eq-eqb, not, ◌&&◌, List, [], ◌∷◌, ◌++◌, length, get_or, refl, ap, arith, Option, None, Some}
+use Rattle.std.proofs.Common.{◌≡◌, ℕ, zero, suc, ◌+◌, ◌-◌, ◌^◌, ◌<◌, ◌≤◌, Bool, true, false, cond, List, [], ◌∷◌, ◌++◌, length, get_or, refl, arith, Option, None, Some}
 use Rattle.std.specs.Prelude.{codes, nat_lt}
 use Rattle.std.specs.List.{AllByRecursion}
 use Rattle.std.specs.Fmt.{decimal}
 use Rattle.std.specs.FinSet as set
-use Rattle.std.proofs.lemmas.Bool.{and_parts}
 use Rattle.std.proofs.lemmas.List.Elements.{recursion_from_All}
 use Rattle.cpog_defs.specs.declared.types.Ref.{Ref}
 use Rattle.cpog_defs.specs.declared.types.Ref.TheVariants as references
@@ -15,7 +14,7 @@ use Rattle.gate_core.proofs.GateLemmas.{gate_reads}
 use Rattle.handshake_eqs.specs.Netlists.{Netlist, condition_of, wire_of, waits_of, IsWireOver}
 use Rattle.line_text.specs.Words.{continues_name}
 use Rattle.line_text.proofs.FeedLemmas.{NoFeed, is_clean, joined_free, passes_free, clean_free, clean_front, decimal_free}
-use Rattle.line_text.proofs.TellingLemmas.{AllPass, apart, decimal_continues, free_name_passes}
+use Rattle.line_text.proofs.TellingLemmas.{AllPass, free_name_passes}
 use Rattle.netlist_verilog.specs.Module.{ModuleValue, IsModule, AreNames}
 use Rattle.netlist_verilog.specs.Wires.{Wire, Signal, Go, Acknowledge, Request, Done, Idle, Condition, ArcCondition, name_of, signal_text, wire_text}
 use Rattle.netlist_verilog.specs.Formulas.{Formula, Bit, Read, Not, And, Xor, Or, Equation, grouped, tightness, formula_text, comment_text, equation_row}
@@ -95,7 +94,7 @@ formula_free : (inputs : ℕ) (names : List (List ℕ)) → ((v : ℕ) → NoFee
 formula_free inputs names free (Bit false) h = clean_free (codes "1'b0") refl
 formula_free inputs names free (Bit true) h = clean_free (codes "1'b1") refl
 formula_free inputs names free (Read w) h = wire_free inputs names free w h
-formula_free inputs names free (Not f) h = clean_front (codes "~") _ refl (grouped_free 3 (tightness f) (formula_text inputs names f) (formula_free inputs names free f h))
+formula_free inputs names free (Not f) h = clean_front (codes "~") _ refl (grouped_free 4 (tightness f) (formula_text inputs names f) (formula_free inputs names free f h))
 formula_free inputs names free (And f g) h =
     infix_free (codes " & ") _ _ refl (grouped_free 2 (tightness f) (formula_text inputs names f) (formula_free inputs names free f h.0)) (grouped_free 3 (tightness g) (formula_text inputs names g) (formula_free inputs names free g h.1))
 formula_free inputs names free (Xor f g) h =

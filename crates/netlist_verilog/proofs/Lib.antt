@@ -11,3 +11,5 @@ pub mod RowLemmas
 pub mod LawLemmas
 pub mod OwnLemmas
 pub mod CallingLemmas
+pub mod SpellingLemmas
+pub mod ReadingLemmas

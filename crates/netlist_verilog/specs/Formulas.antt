@@ -30,8 +30,8 @@ ReadsOnly P (Or f g) = ReadsOnly P f × ReadsOnly P g
 
 -- which operators bind tighter: ~ before & before ^ before |
 abbrev pub tightness : Formula → ℕ
-tightness (Bit b) = 3
-tightness (Read w) = 3
+tightness (Bit b) = 4
+tightness (Read w) = 4
 tightness (Not f) = 3
 tightness (And f g) = 2
 tightness (Xor f g) = 1
@@ -41,12 +41,12 @@ tightness (Or f g) = 0
 abbrev pub grouped : ℕ → ℕ → List ℕ → List ℕ
 grouped least tight text = if nat_lt tight least then codes "(" ++ (text ++ codes ")") else text
 
--- operators of one kind are read from the left, so a right operand has to bind tighter than its operator
+-- operators of one kind are read from the left, so a right operand has to bind tighter than its operator; and none stands right behind ~
 abbrev pub formula_text : ℕ → List (List ℕ) → Formula → List ℕ
 formula_text inputs names (Bit false) = codes "1'b0"
 formula_text inputs names (Bit true) = codes "1'b1"
 formula_text inputs names (Read w) = wire_text inputs names w
-formula_text inputs names (Not f) = codes "~" ++ grouped 3 (tightness f) (formula_text inputs names f)
+formula_text inputs names (Not f) = codes "~" ++ grouped 4 (tightness f) (formula_text inputs names f)
 formula_text inputs names (And f g) = grouped 2 (tightness f) (formula_text inputs names f) ++ (codes " & " ++ grouped 3 (tightness g) (formula_text inputs names g))
 formula_text inputs names (Xor f g) = grouped 1 (tightness f) (formula_text inputs names f) ++ (codes " ^ " ++ grouped 2 (tightness g) (formula_text inputs names g))
 formula_text inputs names (Or f g) = formula_text inputs names f ++ (codes " | " ++ grouped 1 (tightness g) (formula_text inputs names g))

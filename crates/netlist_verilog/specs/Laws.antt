@@ -1,5 +1,5 @@
 -- What is proved of modules.
-use Rattle.std.specs.Prelude.{◌≡◌, ◌≢◌, ℕ, ◌<◌, Bool, ◌++◌, length}
+use Rattle.std.specs.Prelude.{◌≡◌, ◌≢◌, ℕ, ◌<◌, Bool, List, ◌++◌, length}
 use Rattle.std.specs.List.{AllByRecursion}
 use Rattle.std.specs.FinSet as set
 use Rattle.cpog_defs.specs.Codes.{bit}
@@ -10,7 +10,8 @@ use Rattle.handshake_eqs.specs.Agreement.{request, done, idle}
 use Rattle.line_text.specs.Lines.{text_of}
 use Rattle.netlist_verilog.specs.Module.{ModuleValue, IsModule, IsWireOf, called}
 use Rattle.netlist_verilog.specs.Wires.{Wire, Signal, Go, Acknowledge, Request, Done, Idle}
-use Rattle.netlist_verilog.specs.Formulas.{value, ReadsOnly, Equation}
+use Rattle.netlist_verilog.specs.Formulas.{Formula, value, ReadsOnly, formula_text, Equation}
+use Rattle.netlist_verilog.specs.Grammar.{IsReadAs}
 use Rattle.netlist_verilog.specs.Equations.{table_formula, equations}
 use Rattle.netlist_verilog.specs.Rows.{input_wires, output_wires, inner_wires, module_lines}
 
@@ -63,3 +64,11 @@ pub record HasItsWires (m : ModuleValue) : Type 0 where
 
 abbrev pub ModulesHaveTheirWires : Type 0
 ModulesHaveTheirWires = (m : ModuleValue) → IsModule m → HasItsWires m
+
+-- the text of a formula over the wires of a module is read as this formula
+abbrev pub FormulasAreRead : Type 0
+FormulasAreRead = (m : ModuleValue) (f : Formula) → IsModule m → ReadsOnly (IsWireOf m) f → IsReadAs m (formula_text m.netlist.gates.inputs m.names f) f
+
+-- no text is read as two formulas
+abbrev pub ReadingIsOne : Type 0
+ReadingIsOne = (m : ModuleValue) (text : List ℕ) (f g : Formula) → IsModule m → IsReadAs m text f → IsReadAs m text g → f ≡ g

@@ -4,4 +4,5 @@ pub mod Wires
 pub mod Formulas
 pub mod Equations
 pub mod Rows
+pub mod Grammar
 pub mod Laws

@@ -1,4 +1,4 @@
-ghost use Rattle.netlist_verilog.specs.Laws.{FormulasAreTables, EquationsGiveOutputs, EquationsSettle, LinesHoldNoFeed, TextTellsModule, WiresAreTold, ModulesHaveTheirWires};
+ghost use Rattle.netlist_verilog.specs.Laws.{FormulasAreTables, EquationsGiveOutputs, EquationsSettle, LinesHoldNoFeed, TextTellsModule, WiresAreTold, ModulesHaveTheirWires, FormulasAreRead, ReadingIsOne};
 
 /// The value of a gate's formula is the gate's value by its table.
 pub fn formulas_are_tables()
@@ -33,4 +33,14 @@ pub fn wires_are_told()
 /// What a module declares, assigns and reads are wires of it.
 pub fn modules_have_their_wires()
     ensures { ModulesHaveTheirWires }
+{}
+
+/// The text of a formula over the wires of a module is read as this formula, by the grammar of Verilog's expressions.
+pub fn formulas_are_read()
+    ensures { FormulasAreRead }
+{}
+
+/// No text is read as two formulas.
+pub fn reading_is_one()
+    ensures { ReadingIsOne }
 {}

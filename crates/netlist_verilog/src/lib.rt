@@ -1,10 +1,10 @@
 //! The Verilog text of a controller's netlist (a small subset of IEEE 1364-2005).
 //!
 //! A module is a netlist with a name for each operation. Its text is a list of lines, `module_lines`: what it
-//! declares, and its equations, each an assignment of a formula to a wire. The formulas have a text and a value, so
-//! what is printed and what it means are one definition. `write_module` is promised to give exactly that text,
-//! no two modules have the same one, and wherever the printed equations hold, the outputs are those that the
-//! netlist settles to.
+//! declares, and its equations, each an assignment of a formula to a wire. A formula has a text and a value: by the
+//! grammar of Verilog's expressions the text is read as this formula alone, and each wire has a name of its own.
+//! `write_module` is promised to give exactly these lines, no two modules have the same text, and wherever the printed
+//! equations hold, the outputs are those that the netlist settles to.
 //! Names and lines are those of `line_text`, netlists those of `handshake_eqs`.
 #![tactic(auto)]
 
@@ -18,8 +18,9 @@ mod tests;
 mod writing;
 
 pub use laws::{
-    equations_give_outputs, equations_settle, formulas_are_tables, lines_hold_no_feed,
-    modules_have_their_wires, text_tells_module, wires_are_told,
+    equations_give_outputs, equations_settle, formulas_are_read, formulas_are_tables,
+    lines_hold_no_feed, modules_have_their_wires, reading_is_one, text_tells_module,
+    wires_are_told,
 };
 pub use module::Module;
 pub use signal_name::SignalName;
