@@ -2,3 +2,4 @@ pub mod NamesLemmas
 pub mod OpSetLemmas
 pub mod ArcLemmas
 pub mod ColumnLemmas
+pub mod ServeLemmas

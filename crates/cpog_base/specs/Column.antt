@@ -1,11 +1,12 @@
 -- A column as two words: where it is One, and where it is Zero.
-use Rattle.std.specs.Prelude.{◌≡◌, ℕ, zero, suc, ◌+◌, ◌-◌, ◌*◌, ◌==◌, ◌^◌, ◌<◌, ◌≤◌, Bool, true, false, if◌then◌else◌, IsTrue, List, [], ◌∷◌, ◌++◌, length, slice_index_or}
+use Rattle.std.specs.Prelude.{◌≡◌, ◌≢◌, ℕ, zero, suc, ◌+◌, ◌-◌, ◌*◌, ◌==◌, ◌^◌, ◌<◌, ◌≤◌, Bool, true, false, if◌then◌else◌, IsTrue, List, [], ◌∷◌, ◌++◌, length, slice_index_or}
 use Rattle.std.proofs.Common.{refl, sym, ap, ◌∙◌, arith, inl, inr, pow-suc, length-append}
 use Rattle.std.proofs.lemmas.Bool.{cases_eq}
 use Rattle.std.proofs.lemmas.Bool.Decides.{nat_tests}
 use Rattle.std.proofs.lemmas.Nat.Bits.{same_from_bits_below, bit_at_cat_low, bit_at_cat_high, bit_at-lt}
 use Rattle.std.proofs.lemmas.List.{get_or_append_left}
 use Rattle.std.proofs.Math.Seq.{get_or-append_seam}
+use Rattle.cpog_defs.specs.Entries.{entry_at}
 use Rattle.cpog_defs.specs.Codes.{bit}
 use Rattle.cpog_defs.specs.declared.types.Bit3.{Bit3}
 use Rattle.cpog_defs.specs.declared.types.Bit3.TheVariants.{Zero, One, Free}
@@ -19,6 +20,20 @@ is_one b = false
 abbrev pub is_zero : Bit3 → Bool
 is_zero Zero = true
 is_zero b = false
+
+-- the opposite of what is asked
+abbrev pub opposite : Bit3 → Bit3
+opposite Zero = One
+opposite One = Zero
+opposite Free = Free
+
+-- wherever a asks for a bit, b asks for the same
+abbrev pub Serves : List Bit3 → List Bit3 → Type 0
+Serves b a = (s : ℕ) → entry_at a s ≢ Free → entry_at b s ≡ entry_at a s
+
+-- wherever a asks for a bit, b asks for the opposite
+abbrev pub Opposes : List Bit3 → List Bit3 → Type 0
+Opposes b a = (s : ℕ) → entry_at a s ≢ Free → entry_at b s ≡ opposite (entry_at a s)
 
 -- the entry that the two words' bits stand for
 abbrev pub entry_of : ℕ → ℕ → ℕ → Bit3

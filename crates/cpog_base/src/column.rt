@@ -1,9 +1,9 @@
 //! What the scenarios ask of one condition, one entry a scenario. Two words of bits say where the entry is One and
 //! where it is Zero, so a question about a whole column is a few steps.
 
-ghost use Rattle.std.specs.Prelude.{◌≡◌, ◌≢◌, ◌<◌, ◌≤◌, ◌^◌, ℕ, length, replicate, slice_get, slice_set, Some};
+ghost use Rattle.std.specs.Prelude.{◌≡◌, ◌≢◌, ◌↔◌, ◌<◌, ◌≤◌, ◌^◌, ℕ, IsTrue, length, replicate, slice_get, slice_set, Some};
 ghost use Rattle.std.specs.List.{list_any};
-ghost use Rattle.cpog_base.specs.Column.{is_one, is_zero};
+ghost use Rattle.cpog_base.specs.Column.{is_one, is_zero, Serves, Opposes};
 ghost use Rattle.cpog_defs.specs.Codes.{bit};
 ghost use Rattle.cpog_defs.specs.declared.types.Bit3.TheVariants.{Free};
 
@@ -50,6 +50,13 @@ fn with_bit(word: u64, i: u8, value: bool) -> u64
 {
     let mask = 1 << i;
     if value { word | mask } else { word & !mask }
+}
+
+/// Whether each bit of one word is a bit of the other.
+fn is_within(word: u64, other: u64) -> bool
+    ensures { IsTrue result ↔ ((i : ℕ) → IsTrue (bit word i) → IsTrue (bit other i)) }
+{
+    word & !other == 0
 }
 
 impl Column {
@@ -108,5 +115,20 @@ impl Column {
         ensures { result ≡ list_any is_zero self.now }
     {
         self.zeros != 0
+    }
+
+    /// Whether whatever meets this column meets the other: wherever the other asks for a bit, this asks for the same.
+    pub fn serves(&self, other: &Column) -> bool
+        ensures { IsTrue result ↔ Serves self.now other.now }
+    {
+        is_within(other.ones, self.ones) & is_within(other.zeros, self.zeros)
+    }
+
+    /// Whether the complement of whatever meets this column meets the other: wherever the other asks for a bit, this
+    /// asks for the opposite.
+    pub fn opposes(&self, other: &Column) -> bool
+        ensures { IsTrue result ↔ Opposes self.now other.now }
+    {
+        is_within(other.ones, self.zeros) & is_within(other.zeros, self.ones)
     }
 }
