@@ -1,9 +1,17 @@
 -- What is promised of columns and of fitting.
-use Rattle.std.specs.Prelude.{◌↔◌, ℕ, List}
-use Rattle.std.specs.List.{All}
+use Rattle.std.specs.Prelude.{◌≡◌, ◌↔◌, ℕ, ◌*◌, ◌-◌, ◌≤◌, Bool, List, length}
+use Rattle.std.specs.List.{All, sum_by}
+use Rattle.cpog_defs.specs.declared.types.Bit3.{Bit3}
+use Rattle.cpog_defs.specs.declared.types.Ref.{Ref}
+use Rattle.cpog_defs.specs.Gates.{GateList}
 use Rattle.cpog_defs.specs.Orders.{Order, IsOrderOf}
 use Rattle.cpog_defs.specs.Scenarios.{Scenario, AreOrdersOf}
-use Rattle.cpog_defs.specs.Encodings.{Encoding, IsEncoding, Fits, FitsScenarios, AgreesWithColumns}
+use Rattle.cpog_defs.specs.Encodings.{Encoding, IsEncoding, Fits, FitsScenarios, RefAgrees, AgreesWithColumns}
+use Rattle.cpog_merge.specs.declared.class_list.Belongs.{Belongs}
+use Rattle.cpog_merge.specs.Table.{Table, count_of, AreColumnsOf, AgreesWithTable}
+use Rattle.cpog_merge.specs.Classes.{Classes, ServesAs, BelongsTo, AreClassesOf}
+use Rattle.cpog_merge.specs.ByClass.{signed_ref, AgreeWithClasses, IsGraphByClass}
+use Rattle.cpog_merge.specs.Smaller.{smaller_set}
 
 -- For all codes, gates and every conditional graph: the encoding fits the orders exactly where each condition has, on
 -- each scenario's code, the value of each defined entry of its column.
@@ -14,3 +22,32 @@ FitsIsAgreeing =
 -- an encoding fits the orders of scenarios exactly where it fits the scenarios
 abbrev pub FitsIsFittingScenarios : Type 0
 FitsIsFittingScenarios = (e : Encoding) (scenarios : List Scenario) (orders : List Order) → AreOrdersOf scenarios orders → Fits e orders ↔ FitsScenarios e scenarios
+
+-- a reference that agrees with a column agrees, complemented where negated, with each column that this one serves so
+abbrev pub ServedAgree : Type 0
+ServedAgree =
+    (gates : GateList) (codes : List ℕ) (b a : List Bit3) (negated : Bool) (ref : Ref) →
+    ServesAs negated b a → RefAgrees gates codes b ref → RefAgrees gates codes a (signed_ref negated ref)
+
+-- no column belongs to two constants or classes, or to one with both signs
+abbrev pub BelongsToOne : Type 0
+BelongsToOne = (list : Classes) (column : List Bit3) (x y : Belongs) → BelongsTo list column x → BelongsTo list column y → x ≡ y
+
+-- Where each class has a reference that agrees with it, a graph whose conditions are these references, complemented
+-- where the column is negated, and the constants, agrees with every column.
+abbrev pub GraphByClassAgrees : Type 0
+GraphByClassAgrees =
+    (e : Encoding) (t : Table) (list : Classes) (refs : List Ref) → AreClassesOf t list → length e.codes ≡ t.scenarios →
+    AgreeWithClasses e.gates e.codes list refs → IsGraphByClass t.count list refs e.graph → AgreesWithTable e t
+
+-- The smaller sets of the classes have at most 1024 members for each scenario, where there are at most 64 operations.
+abbrev pub SmallerSetsAreFew : Type 0
+SmallerSetsAreFew =
+    (orders : List Order) (t : Table) (list : Classes) → All (IsOrderOf (count_of orders)) orders → count_of orders ≤ 64 →
+    AreColumnsOf orders t → AreClassesOf t list → sum_by smaller_set list.columns ≤ length orders * 1024
+
+-- To join the members of each smaller set takes at most 63488 gates, where there are at most 64 scenarios as well.
+abbrev pub JoiningIsBounded : Type 0
+JoiningIsBounded =
+    (orders : List Order) (t : Table) (list : Classes) → All (IsOrderOf (count_of orders)) orders → count_of orders ≤ 64 → length orders ≤ 64 →
+    AreColumnsOf orders t → AreClassesOf t list → sum_by (λ column. smaller_set column - 1) list.columns ≤ 63488

@@ -1,3 +1,7 @@
 pub mod Filling
 pub mod Laws
 pub mod Table
+pub mod Classes
+pub mod ByClass
+pub mod Smaller
+pub mod Opens

@@ -1,6 +1,6 @@
-//! What columns tell of encodings.
+//! What columns and their classes tell of encodings.
 
-ghost use Rattle.cpog_merge.specs.Laws.{FitsIsAgreeing, FitsIsFittingScenarios};
+ghost use Rattle.cpog_merge.specs.Laws.{FitsIsAgreeing, FitsIsFittingScenarios, ServedAgree, BelongsToOne, GraphByClassAgrees, SmallerSetsAreFew, JoiningIsBounded};
 
 /// An encoding fits orders exactly where each of its conditions has, on each code, the value of its column's entry
 /// (Mokhov and Yakovlev 2010: the encoding constraints of a conditional partial order graph).
@@ -11,4 +11,30 @@ pub fn fits_is_agreeing()
 /// An encoding fits the orders of scenarios exactly where it fits the scenarios.
 pub fn fits_is_fitting_scenarios()
     ensures { FitsIsFittingScenarios }
+{}
+
+/// A reference that agrees with a column agrees, complemented where negated, with each column that this one serves.
+pub fn served_agree()
+    ensures { ServedAgree }
+{}
+
+/// A column belongs to one constant, or to one class with one sign.
+pub fn belongs_to_one()
+    ensures { BelongsToOne }
+{}
+
+/// A graph whose conditions are those of the classes agrees with every column.
+pub fn graph_by_class_agrees()
+    ensures { GraphByClassAgrees }
+{}
+
+/// An operation's smaller set has at most the scenarios that lack it, a pair's at most those of which it is a covering
+/// pair. Covering pairs are few (Mantel 1907), so over all classes a scenario is in at most 1024 smaller sets.
+pub fn smaller_sets_are_few()
+    ensures { SmallerSetsAreFew }
+{}
+
+/// To join the members of the smaller set of each class takes at most 63488 gates of two inputs.
+pub fn joining_is_bounded()
+    ensures { JoiningIsBounded }
 {}

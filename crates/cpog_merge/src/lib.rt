@@ -4,10 +4,18 @@
 //! conditions agrees with its column.
 #![tactic(auto)]
 
+mod choosing;
+mod class_list;
 mod filling;
 mod laws;
+mod serving;
 mod table;
 
+pub use choosing::classes;
+pub use class_list::{Belongs, ClassList};
 pub use filling::merge;
-pub use laws::{fits_is_agreeing, fits_is_fitting_scenarios};
+pub use laws::{
+    belongs_to_one, fits_is_agreeing, fits_is_fitting_scenarios, graph_by_class_agrees,
+    joining_is_bounded, served_agree, smaller_sets_are_few,
+};
 pub use table::Columns;
