@@ -5,3 +5,5 @@ pub mod TableLemmas
 pub mod AgreeLemmas
 pub mod ListLemmas
 pub mod SmallerLemmas
+pub mod ServingLemmas
+pub mod ChosenLemmas
