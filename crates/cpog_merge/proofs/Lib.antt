@@ -7,3 +7,5 @@ pub mod ListLemmas
 pub mod SmallerLemmas
 pub mod ServingLemmas
 pub mod ChosenLemmas
+pub mod OpenLemmas
+pub mod ClassLemmas

@@ -86,11 +86,11 @@ module _ {A : Type 0} where
               ]
         ]
 
-    pub pairs_each_below : (f : ℕ → List A) (n : ℕ) → ((i : ℕ) → AllPairs R (f i)) → ((i j : ℕ) (x y : A) → i < j → Contains (f i) x → Contains (f j) y → R x y) → AllPairs R (each_below f n)
+    pub pairs_each_below : (f : ℕ → List A) (n : ℕ) → ((i : ℕ) → AllPairs R (f i)) → ((i j : ℕ) (x y : A) → i < j → j < n → Contains (f i) x → Contains (f j) y → R x y) → AllPairs R (each_below f n)
     pairs_each_below f zero each across = pairs_nil
     pairs_each_below f (suc n) each across =
-        pairs_append (each_below f n) (f n) (pairs_each_below f n each across) (each n)
-        (λ x y h k. let p = from_each_below f n x h in across p.0 n x y p.1 p.2 k)
+        pairs_append (each_below f n) (f n) (pairs_each_below f n each (λ i j x y l m h k. across i j x y l (omega arith) h k)) (each n)
+        (λ x y h k. let p = from_each_below f n x h in across p.0 n x y p.1 (omega arith) p.2 k)
 
   -- ---- sums
 

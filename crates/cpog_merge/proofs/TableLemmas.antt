@@ -16,14 +16,14 @@ use Rattle.cpog_merge.specs.Filling.{op_columns_of, arc_columns_into, arc_column
 -- ---- lists one behind the other, each of m elements
 
 module _ {A : Type 0} (f : ℕ → List A) (m : ℕ) (each : (i : ℕ) → length (f i) ≡ m) where
-  length-blocks : (n : ℕ) → length (each_below f n) ≡ n * m
+  pub length-blocks : (n : ℕ) → length (each_below f n) ≡ n * m
   length-blocks zero = omega arith
   length-blocks (suc n) = length-append (each_below f n) (f n) ∙ rw (length-blocks n, each n) (grind arith)
 
   within : (n i j : ℕ) → i < n → j < m → i * m + j < n * m
   within n i j l k = let h : suc i * m ≤ n * m = mul-le-mul_right m (omega arith) in omega arith
 
-  get-blocks : (n i j : ℕ) (d : A) → i < n → j < m → get_or (each_below f n) (i * m + j) d ≡ get_or (f i) j d
+  pub get-blocks : (n i j : ℕ) (d : A) → i < n → j < m → get_or (each_below f n) (i * m + j) d ≡ get_or (f i) j d
   get-blocks zero i j d l k = absurd (omega arith)
   get-blocks (suc n) i j d l k = elim (cases_eq i n) [
     | inl same ↦
@@ -83,7 +83,7 @@ is_table orders n few_ops few_scenarios =
     }
 
 -- the place in lists of one
-single : (n : ℕ) → n * 1 + 0 ≡ n
+pub single : (n : ℕ) → n * 1 + 0 ≡ n
 single n = omega arith
 
 -- an operation's column stands in its place

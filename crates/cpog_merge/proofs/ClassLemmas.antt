@@ -1,0 +1,187 @@
+-- The places that are chosen are exactly the classes, in column order, and each column belongs as it should.
+use Rattle.std.proofs.Common.{◌≡◌, ◌≢◌, ℕ, zero, suc, ◌+◌, ◌*◌, ◌-◌, ◌<◌, ◌≤◌, ◌==◌, ◌^◌, Bool, true, false, not, ◌&&◌, ◌||◌, if◌then◌else◌, IsTrue, List, [], ◌∷◌, ◌++◌, ◌⊎◌, length, map, get_or, refl, sym, ap, subst, ◌∙◌, inl, inr, arith, length-append}
+use Rattle.std.specs.List.{list_any, position_or_len, All, AllPairs, Contains}
+use Rattle.std.proofs.lemmas.Bool.{cases_Bool, cases_lt, cases_eq, cases_order, both_ways, ne_eqb, or_cases, not_from_true, not_from_false}
+use Rattle.std.proofs.lemmas.List.{length-map, get_or-map, get_or_default}
+use Rattle.std.proofs.lemmas.List.Elements.{All-get_or, All-map, Contains-get_or}
+use Rattle.std.proofs.lemmas.List.Sums.{position_or_len_is, fails_before_first, passes_at_first, prefix_len-le-length}
+use Rattle.std.proofs.Math.Nat.{mul-le-mul_right}
+use Rattle.cpog_base.specs.Column.{is_one, is_zero}
+use Rattle.cpog_defs.specs.declared.types.Bit3.{Bit3}
+use Rattle.cpog_defs.specs.declared.types.Place.{Place}
+use Rattle.cpog_defs.specs.declared.types.Place.TheVariants.{Op, Arc}
+use Rattle.cpog_defs.specs.Orders.{each_below}
+use Rattle.cpog_defs.specs.Graphs.{IsPlace}
+use Rattle.cpog_merge.specs.declared.class_list.Belongs.{Belongs}
+use Rattle.cpog_merge.specs.declared.class_list.Belongs.TheVariants.{Const, Class}
+use Rattle.cpog_merge.specs.Table.{Table, IsTable, column_at}
+use Rattle.cpog_merge.specs.Classes.{ComesBefore, ServesAs, IsServedBy, IsOpen, IsClass, Classes, class_column, belongs_at, BelongsToClass, BelongsTo, AreClassesOf, IsClassList}
+use Rattle.cpog_merge.specs.Opens.{is_open, open_places, serves_as, serves, is_class_at, chosen, first_class, class_of, belonging, op_belongings, arc_belongings_from, arc_belongings, HasClass, HaveClasses}
+use Rattle.cpog_merge.proofs.ListLemmas.{contains_head, contains_nil, contains_one, in_each_below, from_each_below, pairs_nil, pairs_one, pairs_each_below}
+use Rattle.cpog_merge.proofs.TableLemmas.{length-blocks, get-blocks, single}
+use Rattle.cpog_merge.proofs.ServingLemmas.{serves_decides, served_decides}
+use Rattle.cpog_merge.proofs.ChosenLemmas.{at, IsClassIn, class_from_test, test_from_class, HasClassIn, has_class}
+use Rattle.cpog_merge.proofs.OpenLemmas.{one_way, open_test, listed_open, open_listed, open_in_order, few_open}
+
+-- a column has an entry for each scenario, and there are at most 64
+short_column : (t : Table) → IsTable t → (p : Place) → IsPlace t.count p → length (column_at t p) ≤ 64
+short_column t is (Op v) l =
+    let l' : v.0 < length t.ops = omega (arith, is.ops_each) in
+    let e : length (get_or t.ops v.0 []) ≡ t.scenarios = All-get_or (λ c. length c ≡ t.scenarios) t.ops v.0 [] l' is.op_entries in
+    omega (arith, is.few_scenarios)
+short_column t is (Arc u v) l =
+    let first : u.0 < t.count = l.0 in
+    let second : v.0 < t.count = l.1 in
+    let bound : suc v.0 * t.count ≤ t.count * t.count = mul-le-mul_right t.count (omega arith) in
+    let more : suc v.0 * t.count ≡ v.0 * t.count + t.count = grind arith in
+    let l' : v.0 * t.count + u.0 < length t.arcs = omega (arith, is.arcs_each) in
+    let e : length (get_or t.arcs (v.0 * t.count + u.0) []) ≡ t.scenarios = All-get_or (λ c. length c ≡ t.scenarios) t.arcs (v.0 * t.count + u.0) [] l' is.arc_entries in
+    omega (arith, is.few_scenarios)
+
+module _ (t : Table) (is : IsTable t) where
+  abbrev pub open_columns : List (List Bit3)
+  open_columns = map (column_at t) (open_places t)
+
+  no_place : Place
+  no_place = Op (record { 0 = 0 })
+
+  size : length open_columns ≡ length (open_places t)
+  size = length-map (open_places t) (column_at t)
+
+  -- the place, and its column
+  column_there : (i : ℕ) (d : Place) → i < length (open_places t) → at open_columns i ≡ column_at t (get_or (open_places t) i d)
+  column_there i d l = get_or-map (column_at t) (open_places t) i d [] l
+
+  open_there : (i : ℕ) (d : Place) → i < length (open_places t) → IsOpen t (get_or (open_places t) i d)
+  open_there i d l = listed_open t (get_or (open_places t) i d) (Contains-get_or (open_places t) i d l)
+
+  pub short_columns : All (λ c. length c ≤ 64) open_columns
+  short_columns = All-map (λ c. length c ≤ 64) (column_at t) (open_places t) (λ k d l. short_column t is (get_or (open_places t) k d) (open_there k d l).place)
+
+  -- ---- a class by its place in the list
+
+  module _ (i : ℕ) (d : Place) (l : i < length (open_places t)) where
+    here : Place
+    here = get_or (open_places t) i d
+
+    pub class_from : IsClassIn open_columns i → IsClass t (get_or (open_places t) i d)
+    class_from h = record {
+      is_open = open_there i d l;
+      none_earlier = λ q o before served.
+          let r = open_listed t q o in
+          let k : ℕ = r.0 in
+          let column_q : at open_columns k ≡ column_at t q = column_there k q r.1 ∙ ap (column_at t) r.2 in
+          elim (cases_lt k i) [
+            | inl less ↦ h.none_earlier k less (subst (λ c. IsServedBy c (at open_columns k)) (sym (column_there i d l)) (subst (IsServedBy (column_at t (get_or (open_places t) i d))) (sym column_q) served))
+            | inr more ↦ one_way q (get_or (open_places t) i d) before (not_before k q r.1 r.2 more before)
+          ];
+      serves_back = λ q o after served.
+          let r = open_listed t q o in
+          let k : ℕ = r.0 in
+          let column_q : at open_columns k ≡ column_at t q = column_there k q r.1 ∙ ap (column_at t) r.2 in
+          let back = h.serves_back k (is_after k q r.1 r.2 after) (omega (arith, size, r.1)) (subst (λ c. IsServedBy c (at open_columns k)) (sym (column_there i d l)) (subst (IsServedBy (column_at t (get_or (open_places t) i d))) (sym column_q) served)) in
+          subst (λ c. IsServedBy c (column_at t (get_or (open_places t) i d))) column_q (subst (IsServedBy (at open_columns k)) (column_there i d l) back);
+    }
+      where
+        -- an earlier place stands earlier
+        not_before : (k : ℕ) (q : Place) → k < length (open_places t) → get_or (open_places t) k q ≡ q → i ≤ k → ComesBefore q (get_or (open_places t) i d) → ComesBefore (get_or (open_places t) i d) q
+        not_before k q m e le before = elim (cases_eq i k) [
+          | inl same ↦
+              let self : get_or (open_places t) i d ≡ q = get_or_default (open_places t) i d q l ∙ ap (λ n. get_or (open_places t) n q) same ∙ e in
+              subst (λ z. ComesBefore z q) (sym self) (subst (ComesBefore q) self before)
+          | inr other ↦
+              subst (ComesBefore (get_or (open_places t) i d)) (get_or_default (open_places t) k d q m ∙ e) (open_in_order t i k d (omega arith) m)
+        ]
+
+        is_after : (k : ℕ) (q : Place) → k < length (open_places t) → get_or (open_places t) k q ≡ q → ComesBefore (get_or (open_places t) i d) q → i < k
+        is_after k q m e after = elim (cases_lt i k) [
+          | inl less ↦ less
+          | inr more ↦ elim (cases_eq i k) [
+            | inl same ↦
+                let self : get_or (open_places t) i d ≡ q = get_or_default (open_places t) i d q l ∙ ap (λ n. get_or (open_places t) n q) same ∙ e in
+                let loop : ComesBefore q q = subst (λ z. ComesBefore z q) self after in
+                absurd (one_way q q loop loop)
+            | inr other ↦
+                let back : ComesBefore q (get_or (open_places t) i d) =
+                    subst (λ z. ComesBefore z (get_or (open_places t) i d)) (get_or_default (open_places t) k d q m ∙ e) (open_in_order t k i d (omega arith) l) in
+                absurd (one_way q (get_or (open_places t) i d) back after)
+          ]
+        ]
+
+    pub in_list_from : IsClass t (get_or (open_places t) i d) → IsClassIn open_columns i
+    in_list_from h = record {
+      none_earlier = λ k less served.
+          let m : k < length (open_places t) = omega arith in
+          h.none_earlier (get_or (open_places t) k d) (open_there k d m) (open_in_order t k i d less l)
+          (subst (λ c. IsServedBy c (column_at t (get_or (open_places t) k d))) (column_there i d l) (subst (IsServedBy (at open_columns i)) (column_there k d m) served));
+      serves_back = λ k more n served.
+          let m : k < length (open_places t) = omega (arith, size) in
+          let back = h.serves_back (get_or (open_places t) k d) (open_there k d m) (open_in_order t i k d more m)
+              (subst (λ c. IsServedBy c (column_at t (get_or (open_places t) k d))) (column_there i d l) (subst (IsServedBy (at open_columns i)) (column_there k d m) served)) in
+          subst (λ c. IsServedBy c (at open_columns i)) (sym (column_there k d m)) (subst (IsServedBy (column_at t (get_or (open_places t) k d))) (sym (column_there i d l)) back);
+    }
+
+  -- ---- the list of the classes
+
+  abbrev pub class_list : List Place
+  class_list = chosen open_columns (open_places t) (length open_columns)
+
+  abbrev chosen_at : ℕ → List Place
+  chosen_at i = if is_class_at open_columns i then get_or (open_places t) i (Op (record { 0 = 0 })) ∷ [] else []
+
+  only : (i : ℕ) (q : Place) → Contains (chosen_at i) q → IsTrue (is_class_at open_columns i) × (get_or (open_places t) i (Op (record { 0 = 0 })) ≡ q)
+  only i q h = go (is_class_at open_columns i) refl h
+    where
+      go : (b : Bool) → is_class_at open_columns i ≡ b → Contains (if b then get_or (open_places t) i (Op (record { 0 = 0 })) ∷ [] else []) q → IsTrue (is_class_at open_columns i) × (get_or (open_places t) i (Op (record { 0 = 0 })) ≡ q)
+      go true e h = (e, contains_one _ q h)
+      go false e h = absurd (contains_nil q h)
+
+  pub listed_class : (q : Place) → Contains class_list q → IsClass t q
+  listed_class q h =
+      let a = from_each_below chosen_at (length open_columns) q h in
+      let r = only a.0 q a.2 in
+      let m : a.0 < length (open_places t) = omega (arith, a.1, size) in
+      subst (IsClass t) r.1 (class_from a.0 (Op (record { 0 = 0 })) m (class_from_test open_columns a.0 a.1 r.0))
+
+  pub class_listed : (q : Place) → IsClass t q → Contains class_list q
+  class_listed q h =
+      let r = open_listed t q h.is_open in
+      let i : ℕ = r.0 in
+      let l : i < length (open_places t) = r.1 in
+      let n : i < length open_columns = omega (arith, size) in
+      let test : IsTrue (is_class_at open_columns i) = test_from_class open_columns i n (in_list_from i q l (subst (IsClass t) (sym r.2) h)) in
+      let e : get_or (open_places t) i (Op (record { 0 = 0 })) ≡ q = get_or_default (open_places t) i (Op (record { 0 = 0 })) q l ∙ r.2 in
+      in_each_below chosen_at (length open_columns) i q n (rw test (subst (λ z. Contains (get_or (open_places t) i (Op (record { 0 = 0 })) ∷ []) z) e (contains_head _ [])))
+
+  pub classes_in_order : AllPairs ComesBefore class_list
+  classes_in_order = pairs_each_below ComesBefore chosen_at (length open_columns) alone
+      (λ i j x y l m h k.
+      let a = (only i x h).1 in
+      let b = (only j y k).1 in
+      subst (λ z. ComesBefore z y) a (subst (ComesBefore (get_or (open_places t) i (Op (record { 0 = 0 })))) b (open_in_order t i j (Op (record { 0 = 0 })) l (omega (arith, size)))))
+    where
+      alone : (i : ℕ) → AllPairs ComesBefore (chosen_at i)
+      alone i = go (is_class_at open_columns i)
+        where
+          go : (b : Bool) → AllPairs ComesBefore (if b then get_or (open_places t) i (Op (record { 0 = 0 })) ∷ [] else [])
+          go true = pairs_one ComesBefore _
+          go false = pairs_nil ComesBefore
+
+  few_chosen : (n : ℕ) → length (each_below chosen_at n) ≤ n
+  few_chosen zero = omega arith
+  few_chosen (suc n) = omega (arith, few_chosen n, one_at_most (is_class_at open_columns n), length-append (each_below chosen_at n) (chosen_at n))
+    where
+      one_at_most : (b : Bool) → length (if b then get_or (open_places t) n (Op (record { 0 = 0 })) ∷ [] else []) ≤ 1
+      one_at_most true = omega arith
+      one_at_most false = omega arith
+
+  pub few_classes : length class_list ≤ 16384
+  few_classes =
+      let square : t.count * t.count ≤ 128 * t.count = mul-le-mul_right t.count is.few_ops in
+      omega (arith, few_chosen (length open_columns), size, few_open t, is.few_ops)
+
+  pub classes_are_places : All (IsPlace t.count) class_list
+  classes_are_places = λ k d l. (listed_class (get_or class_list k d) (Contains-get_or class_list k d l)).is_open.place
+
+  pub opens_are_places : All (IsPlace t.count) (open_places t)
+  opens_are_places = λ k d l. (open_there k d l).place
