@@ -1,12 +1,14 @@
 -- The places that are chosen are exactly the classes, in column order, and each column belongs as it should.
-use Rattle.std.proofs.Common.{◌≡◌, ◌≢◌, ℕ, zero, suc, ◌+◌, ◌*◌, ◌-◌, ◌<◌, ◌≤◌, ◌==◌, ◌^◌, Bool, true, false, not, ◌&&◌, ◌||◌, if◌then◌else◌, IsTrue, List, [], ◌∷◌, ◌++◌, ◌⊎◌, length, map, get_or, refl, sym, ap, subst, ◌∙◌, inl, inr, arith, length-append}
+use Rattle.std.proofs.Common.{◌≡◌, ◌≢◌, ◌↔◌, ℕ, zero, suc, ◌+◌, ◌*◌, ◌-◌, ◌<◌, ◌≤◌, ◌==◌, ◌^◌, Bool, true, false, not, ◌&&◌, ◌||◌, if◌then◌else◌, IsTrue, List, [], ◌∷◌, ◌++◌, ◌⊎◌, length, map, get_or, refl, sym, ap, ap₂, subst, ◌∙◌, inl, inr, arith, length-append}
 use Rattle.std.specs.List.{list_any, position_or_len, All, AllPairs, Contains}
-use Rattle.std.proofs.lemmas.Bool.{cases_Bool, cases_lt, cases_eq, cases_order, both_ways, ne_eqb, or_cases, not_from_true, not_from_false}
+use Rattle.std.proofs.lemmas.Bool.{cases_Bool, cases_lt, cases_eq, cases_order, both_ways, ne_eqb, or_cases, and_parts, and_from, not_from_true, not_from_false}
+use Rattle.std.specs.Bool.{Decides}
+use Rattle.std.proofs.lemmas.Bool.Decides.{same_from_decides}
 use Rattle.std.proofs.lemmas.List.{length-map, get_or-map, get_or_default}
 use Rattle.std.proofs.lemmas.List.Elements.{All-get_or, All-map, Contains-get_or}
 use Rattle.std.proofs.lemmas.List.Sums.{position_or_len_is, fails_before_first, passes_at_first, prefix_len-le-length}
 use Rattle.std.proofs.Math.Nat.{mul-le-mul_right}
-use Rattle.cpog_base.specs.Column.{is_one, is_zero}
+use Rattle.cpog_base.specs.Column.{is_one, is_zero, Serves}
 use Rattle.cpog_defs.specs.declared.types.Bit3.{Bit3}
 use Rattle.cpog_defs.specs.declared.types.Place.{Place}
 use Rattle.cpog_defs.specs.declared.types.Place.TheVariants.{Op, Arc}
@@ -15,7 +17,7 @@ use Rattle.cpog_defs.specs.Graphs.{IsPlace}
 use Rattle.cpog_merge.specs.declared.class_list.Belongs.{Belongs}
 use Rattle.cpog_merge.specs.declared.class_list.Belongs.TheVariants.{Const, Class}
 use Rattle.cpog_merge.specs.Table.{Table, IsTable, column_at}
-use Rattle.cpog_merge.specs.Classes.{ComesBefore, ServesAs, IsServedBy, IsOpen, IsClass, Classes, class_column, belongs_at, BelongsToClass, BelongsTo, AreClassesOf, IsClassList}
+use Rattle.cpog_merge.specs.Classes.{ComesBefore, ServesAs, IsServedBy, IsOpen, IsClass, Classes, class_column, belongs_at, BelongsToClass, BelongsTo, AreClassPlaces, AreClassesOf, IsClassList}
 use Rattle.cpog_merge.specs.Opens.{is_open, open_places, serves_as, serves, is_class_at, chosen, first_class, class_of, belonging, op_belongings, arc_belongings_from, arc_belongings, HasClass, HaveClasses}
 use Rattle.cpog_merge.proofs.ListLemmas.{contains_head, contains_nil, contains_one, in_each_below, from_each_below, pairs_nil, pairs_one, pairs_each_below}
 use Rattle.cpog_merge.proofs.TableLemmas.{length-blocks, get-blocks, single}
@@ -185,3 +187,90 @@ module _ (t : Table) (is : IsTable t) where
 
   pub opens_are_places : All (IsPlace t.count) (open_places t)
   opens_are_places = λ k d l. (open_there k d l).place
+
+  pub are_class_places : AreClassPlaces t class_list
+  are_class_places = record {
+    each = λ k d l. listed_class (get_or class_list k d) (Contains-get_or class_list k d l);
+    all = class_listed;
+    in_order = classes_in_order;
+  }
+
+  -- ---- each open column has a class
+
+  -- where some class serves a column there is a first one
+  first_found : (classes : List (List Bit3)) (column : List Bit3) (k : ℕ) → k < length classes → IsServedBy column (at classes k) → first_class classes column < length classes
+  first_found classes column k l served = elim (cases_lt (first_class classes column) (length classes)) [
+    | inl less ↦ less
+    | inr more ↦
+        let fails = fails_before_first (λ b. serves b column) classes k [] (omega arith) in
+        absurd (both_ways _ fails ((served_decides (at classes k) column).1 served))
+  ]
+
+  -- what serves the column of one open place is the column of another
+  at_columns : (i k : ℕ) (d p : Place) → i < length (open_places t) → k < length (open_places t) → column_at t (get_or (open_places t) i d) ≡ column_at t p →
+      IsServedBy (at open_columns i) (at open_columns k) → IsServedBy (column_at t p) (column_at t (get_or (open_places t) k d))
+  at_columns i k d p l m is served =
+      subst (λ c. IsServedBy c (column_at t (get_or (open_places t) k d))) (column_there i d l ∙ is) (subst (IsServedBy (at open_columns i)) (column_there k d m) served)
+
+  -- a class that serves a column stands in the list
+  found_there : (places : List Place) (class : Place) (column : List Bit3) (k : ℕ) → k < length places → get_or places k class ≡ class → IsServedBy column (column_at t class) →
+      first_class (map (column_at t) places) column < length (map (column_at t) places)
+  found_there places class column k l is served =
+      first_found (map (column_at t) places) column k (omega (arith, length-map places (column_at t)))
+      (subst (IsServedBy column) (sym (get_or-map (column_at t) places k class [] l ∙ ap (column_at t) is)) served)
+
+  pub have_classes : (places : List Place) → AreClassPlaces t places → HaveClasses (map (column_at t) places) t
+  have_classes places are = record {
+    each = λ p l asked.
+        let both = and_parts (list_any is_one (column_at t p)) (list_any is_zero (column_at t p)) asked in
+        let r = open_listed t p (record { place = l; some_one = both.0; some_zero = both.1 }) in
+        let found = has_class open_columns 64 short_columns r.0 (omega (arith, size, r.1)) in
+        let m : found.class < length (open_places t) = omega (arith, found.in_range, size) in
+        let class : Place = get_or (open_places t) found.class p in
+        let q = are.all class (class_from found.class p m (class_from_test open_columns found.class found.in_range found.is_class)) in
+        let served : IsServedBy (column_at t p) (column_at t (get_or (open_places t) found.class p)) =
+            at_columns r.0 found.class p p r.1 m (ap (column_at t) r.2) found.serves in
+        found_there places class (column_at t p) q.0 q.1 q.2 served;
+  }
+
+-- ---- what a column belongs to
+
+-- the first class that serves it, with the sign of that class
+pub belongs_class : (classes : List (List Bit3)) (column found : List Bit3) (number : ℕ) (b : Bool) → IsTrue (list_any is_one column) → IsTrue (list_any is_zero column) → HasClass classes column →
+    number ≡ first_class classes column → found ≡ get_or classes number found → IsTrue b ↔ Serves found column → Class number (not b) ≡ belonging classes column
+belongs_class classes column found number b one none has is at_number tells =
+    let l : first_class classes column < length classes = has (and_from _ _ one none) in
+    let e : found ≡ get_or classes (first_class classes column) [] =
+        at_number ∙ ap (λ n. get_or classes n found) is ∙ get_or_default classes (first_class classes column) found [] l in
+    let sign : b ≡ serves_as false (get_or classes (first_class classes column) []) column =
+        same_from_decides {P = Serves found column} b (serves_as false (get_or classes (first_class classes column) []) column) tells
+        (subst (λ c. Decides (serves_as false (get_or classes (first_class classes column) []) column) (Serves c column)) (sym e) (serves_decides false (get_or classes (first_class classes column) []) column)) in
+    rw (one, none) (ap₂ (λ n s. Class n (not s)) is sign)
+
+-- what is computed is what it belongs to
+pub belongs_as_said : (list : Classes) (column : List Bit3) → HasClass list.columns column → BelongsTo list column (belonging list.columns column)
+belongs_as_said list column has = elim (cases_Bool (list_any is_one column)) [
+  | inr none ↦ rw none none
+  | inl one ↦ elim (cases_Bool (list_any is_zero column)) [
+    | inr none ↦ rw (one, none) (one, none)
+    | inl some ↦ rw (one, some) (one, some, record {
+        in_range = range one some;
+        serves = signed (serves_as false class column) refl (range one some);
+        first = λ k less served.
+            let fails = fails_before_first (λ b. serves b column) list.columns k [] less in
+            both_ways _ fails ((served_decides (class_column list k) column).1 served);
+      })
+  ]
+]
+  where
+    class : List Bit3
+    class = class_column list (first_class list.columns column)
+
+    range : IsTrue (list_any is_one column) → IsTrue (list_any is_zero column) → first_class list.columns column < length list.columns
+    range one some = has (and_from _ _ one some)
+
+    signed : (b : Bool) → serves_as false class column ≡ b → first_class list.columns column < length list.columns → ServesAs (not b) class column
+    signed true e l = (serves_decides false class column).0 e
+    signed false e l =
+        let passes = passes_at_first (λ b. serves b column) list.columns [] l in
+        elim (or_cases _ _ passes) [ inl plain ↦ absurd (both_ways _ e plain) | inr turned ↦ (serves_decides true class column).0 turned ]

@@ -9,3 +9,4 @@ pub mod ServingLemmas
 pub mod ChosenLemmas
 pub mod OpenLemmas
 pub mod ClassLemmas
+pub mod ListedLemmas

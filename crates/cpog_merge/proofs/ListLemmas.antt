@@ -1,5 +1,5 @@
 -- Elements, orders and sums of lists that are made one behind the other.
-use Rattle.std.proofs.Common.{◌≡◌, ◌≢◌, ℕ, zero, suc, ◌+◌, ◌-◌, ◌*◌, ◌<◌, ◌≤◌, List, [], ◌∷◌, ◌++◌, ◌⊎◌, length, get_or, refl, sym, ap, ◌∙◌, subst, inl, inr, arith, length-append}
+use Rattle.std.proofs.Common.{◌≡◌, ◌≢◌, ℕ, zero, suc, ◌+◌, ◌-◌, ◌*◌, ◌<◌, ◌≤◌, List, [], ◌∷◌, ◌++◌, ◌⊎◌, length, get_or, refl, sym, ap, ap₂, append_assoc, add-one, ◌∙◌, subst, inl, inr, arith, length-append}
 use Rattle.std.specs.List.{All, AllPairs, Contains, sum_by}
 use Rattle.std.proofs.lemmas.Bool.{cases_lt, cases_eq}
 use Rattle.std.proofs.lemmas.List.{get_or_append_left, get_or-append_right, get_or_default}
@@ -56,6 +56,10 @@ module _ {A : Type 0} where
     | inl a ↦ let p = from_each_below f n x a in (p.0, omega (arith, p.1), p.2)
     | inr b ↦ (n, omega arith, b)
   ]
+
+  -- one more list behind the others
+  pub each_more : (f : ℕ → List A) (n : ℕ) (front xs ys zs : List A) → xs ≡ front ++ each_below f n → ys ≡ f n → zs ≡ xs ++ ys → zs ≡ front ++ each_below f (n + 1)
+  each_more f n front xs ys zs h k l = l ∙ ap₂ (λ a b. a ++ b) h k ∙ append_assoc front (each_below f n) (f n) ∙ ap (λ m. front ++ each_below f m) (sym (add-one n))
 
   -- ---- order
 

@@ -188,7 +188,7 @@ module _ (orders : List Order) (t : Table) (list : Classes) (alike : All (IsOrde
       omega arith
 
   is_place : (k : ℕ) (d : Place) → k < length list.places → IsPlace (count_of orders) (get_or list.places k d)
-  is_place k d l = subst (λ m. IsPlace m (get_or list.places k d)) are.count (All-get_or (IsClass t) list.places k d l classes.each).is_open.place
+  is_place k d l = subst (λ m. IsPlace m (get_or list.places k d)) are.count (All-get_or (IsClass t) list.places k d l classes.places.each).is_open.place
 
   over_columns : (ps : List Place) → All (IsPlace (count_of orders)) ps → sum_by smaller_set (map (column_at t) ps) ≡ sum_by (λ p. smaller_set (column orders p)) ps
   over_columns [] h = refl
@@ -201,7 +201,7 @@ module _ (orders : List Order) (t : Table) (list : Classes) (alike : All (IsOrde
   pub smaller_sets_lem : sum_by smaller_set list.columns ≤ length orders * 1024
   smaller_sets_lem =
       let different : AllPairs (λ x y. x ≢ y) list.places =
-          λ i j d l m. λ e. not_itself (get_or list.places j d) (subst (λ p. ComesBefore p (get_or list.places j d)) e (classes.in_order i j d l m)) in
+          λ i j d l m. λ e. not_itself (get_or list.places j d) (subst (λ p. ComesBefore p (get_or list.places j d)) e (classes.places.in_order i j d l m)) in
       let within : All (Contains (places (count_of orders))) list.places = λ k d l. is_there (count_of orders) (get_or list.places k d) (is_place k d l) in
       let some = sum_of_some (λ p. smaller_set (column orders p)) list.places (places (count_of orders)) different within in
       rw (classes.columns, over_columns list.places is_place) (omega (arith, some, over_all))

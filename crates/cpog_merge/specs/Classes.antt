@@ -72,12 +72,16 @@ BelongsTo list column (Const true) = IsTrue (list_any is_one column) × (list_an
 BelongsTo list column (Class number negated) =
     IsTrue (list_any is_one column) × IsTrue (list_any is_zero column) × BelongsToClass list column number negated
 
--- exactly the classes of a table, in column order, and what each of its columns belongs to
+-- exactly the classes of a table, in column order
+pub record AreClassPlaces (t : Table) (places : List Place) : Type 0 where
+  pub each : All (IsClass t) places
+  pub all : (p : Place) → IsClass t p → Contains places p
+  pub in_order : AllPairs ComesBefore places
+
+-- the classes of a table with their columns, and what each of its columns belongs to
 pub record AreClassesOf (t : Table) (list : Classes) : Type 0 where
   pub count : list.count ≡ t.count
-  pub each : All (IsClass t) list.places
-  pub all : (p : Place) → IsClass t p → Contains list.places p
-  pub in_order : AllPairs ComesBefore list.places
+  pub places : AreClassPlaces t list.places
   pub columns : list.columns ≡ map (column_at t) list.places
   pub belongs : (p : Place) → IsPlace t.count p → BelongsTo list (column_at t p) (belongs_at list p)
 

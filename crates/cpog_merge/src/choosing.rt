@@ -1,12 +1,12 @@
 //! The classes among the columns. The open columns are laid out in column order, one behind the other, so that each is
 //! compared with those before and behind it. Then each column looks for the first class that serves it.
 
-ghost use Rattle.std.specs.Prelude.{◌≡◌, ◌≢◌, ◌<◌, ◌≤◌, ◌^◌, ◌++◌, length, map, IfOk, OnOk};
+ghost use Rattle.std.specs.Prelude.{◌≡◌, ◌≢◌, ◌<◌, ◌≤◌, ◌^◌, [], ◌∷◌, ◌++◌, if◌then◌else◌, length, map, IfOk, OnOk};
 ghost use Rattle.std.specs.List.{All};
 ghost use Rattle.cpog_defs.specs.Graphs.{IsPlace};
 ghost use Rattle.cpog_merge.specs.Table.{IsTable, column_at};
-ghost use Rattle.cpog_merge.specs.Classes.{AreClassesOf};
-ghost use Rattle.cpog_merge.specs.Opens.{open_ops, open_arcs_from, open_places as places_open, chosen, op_belongings, arc_belongings_from, arc_belongings, HaveClasses};
+ghost use Rattle.cpog_merge.specs.Classes.{AreClassPlaces, AreClassesOf};
+ghost use Rattle.cpog_merge.specs.Opens.{is_open as is_open_column, open_ops, open_arcs_from, open_places as places_open, chosen, op_belongings, arc_belongings_from, arc_belongings, HaveClasses};
 
 use crate::class_list::{Belongs, ClassList};
 use crate::serving::{belongs_to, is_class, is_open};
@@ -15,14 +15,22 @@ use cpog_base::{Column, Memory, OpId};
 use cpog_defs::types::Place;
 use std::alloc::Global;
 
+/// Appends the place, where its column is open.
+fn push_if_open(places: &mut Vec<Place>, p: Place, column: &Column) -> Result<(), Memory>
+    ensures { OnOk result (places.new.items ≡ places.old.items ++ (if is_open_column column.now then p ∷ [] else [])) }
+{
+    if is_open(column) {
+        places.push(p)?;
+    }
+    Ok(())
+}
+
 fn open_operations(alloc: Global, columns: &Columns) -> Result<Vec<Place>, Memory>
     ensures { IfOk result (λ places. places.items ≡ open_ops columns.now columns.now.count) }
 {
     let mut places = Vec::new(alloc);
     for v in 0..columns.count() {
-        if is_open(&columns.op(OpId(v))) {
-            places.push(Place::Op(OpId(v)))?;
-        }
+        push_if_open(&mut places, Place::Op(OpId(v)), &columns.op(OpId(v)))?;
     }
     Ok(places)
 }
@@ -33,8 +41,8 @@ fn push_open_from(places: &mut Vec<Place>, columns: &Columns, u: OpId) -> Result
     ensures { OnOk result (places.new.items ≡ places.old.items ++ open_arcs_from columns.now columns.now.count u.0) }
 {
     for v in 0..columns.count() {
-        if u.0 != v && is_open(&columns.arc(u, OpId(v))) {
-            places.push(Place::Arc(u, OpId(v)))?;
+        if u.0 != v {
+            push_if_open(places, Place::Arc(u, OpId(v)), &columns.arc(u, OpId(v)))?;
         }
     }
     Ok(())
@@ -73,8 +81,8 @@ fn columns_of(alloc: Global, columns: &Columns, places: &[Place]) -> Result<Vec<
     Ok(list)
 }
 
-/// Of the open places those that are classes.
-fn class_places(alloc: Global, places: &[Place], columns: &[Column]) -> Result<Vec<Place>, Memory>
+/// Of these places those whose columns are classes.
+fn choose(alloc: Global, places: &[Place], columns: &[Column]) -> Result<Vec<Place>, Memory>
     requires { length places.now ≡ length columns.now }
     ensures { IfOk result (λ list. list.items ≡ chosen columns.now places.now (length columns.now)) }
 {
@@ -85,6 +93,18 @@ fn class_places(alloc: Global, places: &[Place], columns: &[Column]) -> Result<V
         }
     }
     Ok(list)
+}
+
+/// The places of the classes, in column order.
+fn class_places(alloc: Global, columns: &Columns) -> Result<Vec<Place>, Memory>
+    ensures places { IfOk result (λ places. AreClassPlaces columns.now places.items) }
+    ensures few { IfOk result (λ places. length places.items ≤ 16384) }
+{
+    // What makes the columns a table is known once their count is read.
+    let _count = columns.count();
+    let open = open_places(alloc, columns)?;
+    let open_columns = columns_of(alloc, columns, &open)?;
+    choose(alloc, &open, &open_columns)
 }
 
 /// What the columns of the operations belong to.
@@ -152,14 +172,13 @@ fn pairs_belong(
 pub fn classes(alloc: Global, columns: &Columns) -> Result<ClassList, Memory>
     ensures { IfOk result (λ list. AreClassesOf columns.now list) }
 {
-    let open = open_places(alloc, columns)?;
-    let open_columns = columns_of(alloc, columns, &open)?;
-    let places = class_places(alloc, &open, &open_columns)?;
+    let count = columns.count();
+    let places = class_places(alloc, columns)?;
     let class_columns = columns_of(alloc, columns, &places)?;
     let ops = operations_belong(alloc, columns, &class_columns)?;
     let arcs = pairs_belong(alloc, columns, &class_columns)?;
     Ok(ClassList::from_vecs(
-        columns.count(),
+        count,
         places,
         class_columns,
         ops,

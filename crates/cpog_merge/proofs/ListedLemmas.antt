@@ -1,0 +1,71 @@
+-- The list that is made of the places of the classes says what it must.
+use Rattle.std.proofs.Common.{◌≡◌, ◌≢◌, ℕ, ◌+◌, ◌*◌, ◌<◌, ◌≤◌, ◌==◌, false, if◌then◌else◌, List, [], ◌∷◌, length, map, get_or, refl, sym, ap, subst, ◌∙◌, arith}
+use Rattle.std.specs.List.{All}
+use Rattle.std.proofs.lemmas.Bool.{ne_eqb}
+use Rattle.std.proofs.lemmas.List.{length-map}
+use Rattle.std.proofs.lemmas.List.Elements.{All-get_or}
+use Rattle.cpog_defs.specs.declared.types.Bit3.{Bit3}
+use Rattle.cpog_defs.specs.declared.types.Place.{Place}
+use Rattle.cpog_defs.specs.declared.types.Place.TheVariants.{Op, Arc}
+use Rattle.cpog_defs.specs.Orders.{each_below}
+use Rattle.cpog_defs.specs.Graphs.{IsPlace}
+use Rattle.cpog_merge.specs.declared.class_list.Belongs.{Belongs}
+use Rattle.cpog_merge.specs.declared.class_list.Belongs.TheVariants.{Const}
+use Rattle.cpog_merge.specs.Table.{Table, IsTable, column_at}
+use Rattle.cpog_merge.specs.Classes.{IsClass, Classes, belongs_at, BelongsTo, AreClassPlaces, AreClassesOf, IsClassList}
+use Rattle.cpog_merge.specs.Opens.{belonging, op_belongings, arc_belongings_from, arc_belongings, HaveClasses}
+use Rattle.cpog_merge.proofs.TableLemmas.{length-blocks, get-blocks, single}
+use Rattle.cpog_merge.proofs.ClassLemmas.{have_classes, belongs_as_said}
+
+pub all_places : (t : Table) (places : List Place) → AreClassPlaces t places → All (IsPlace t.count) places
+all_places t places are = λ k d l. (All-get_or (IsClass t) places k d l are.each).is_open.place
+
+-- the list with these classes
+abbrev pub list_of : Table → List Place → Classes
+list_of t places = record {
+  count = t.count;
+  places = places;
+  columns = map (column_at t) places;
+  ops = op_belongings t (map (column_at t) places) t.count;
+  arcs = arc_belongings t (map (column_at t) places) t.count t.count;
+}
+
+module _ (t : Table) (is : IsTable t) (places : List Place) (are : AreClassPlaces t places) where
+  columns : List (List Bit3)
+  columns = map (column_at t) places
+
+  abbrev op_at : ℕ → List Belongs
+  op_at v = belonging (map (column_at t) places) (column_at t (Op (record { 0 = v }))) ∷ []
+
+  abbrev arc_at : ℕ → ℕ → List Belongs
+  arc_at u v = (if u == v then Const false else belonging (map (column_at t) places) (column_at t (Arc (record { 0 = u }) (record { 0 = v })))) ∷ []
+
+  row : (u : ℕ) → length (arc_belongings_from t (map (column_at t) places) t.count u) ≡ t.count
+  row u = length-blocks (arc_at u) 1 (λ v. refl) t.count ∙ omega arith
+
+  pub is_list : length places ≤ 16384 → IsClassList (list_of t places)
+  is_list few = record {
+    few_ops = is.few_ops;
+    few = few;
+    columns_each = length-map places (column_at t);
+    ops_each = length-blocks op_at 1 (λ v. refl) t.count ∙ omega arith;
+    arcs_each = length-blocks (arc_belongings_from t (map (column_at t) places) t.count) t.count row t.count;
+  }
+
+  belongs_there : (p : Place) → IsPlace t.count p → belongs_at (list_of t places) p ≡ belonging (map (column_at t) places) (column_at t p)
+  belongs_there (Op v) l =
+      ap (λ k. get_or (op_belongings t (map (column_at t) places) t.count) k (Const false)) (sym (single v.0))
+      ∙ get-blocks op_at 1 (λ i. refl) t.count v.0 0 (Const false) l (omega arith)
+  belongs_there (Arc u v) l =
+      get-blocks (arc_belongings_from t (map (column_at t) places) t.count) t.count row t.count u.0 v.0 (Const false) l.0 l.1
+      ∙ ap (λ k. get_or (arc_belongings_from t (map (column_at t) places) t.count u.0) k (Const false)) (sym (single v.0))
+      ∙ get-blocks (arc_at u.0) 1 (λ i. refl) t.count v.0 0 (Const false) l.1 (omega arith)
+      ∙ rw (ne_eqb u.0 v.0 l.2) refl
+
+  pub are_classes : AreClassesOf t (list_of t places)
+  are_classes = record {
+    count = refl;
+    places = are;
+    columns = refl;
+    belongs = λ p l. subst (BelongsTo (list_of t places) (column_at t p)) (sym (belongs_there p l)) (belongs_as_said (list_of t places) (column_at t p) ((have_classes t is places are).each p l));
+  }
