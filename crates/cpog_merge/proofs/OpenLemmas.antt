@@ -28,7 +28,7 @@ module _ (t : Table) where
   abbrev op_list : ℕ → List Place
   op_list v = open_at t (Op (record { 0 = v }))
 
-  abbrev arc_list : ℕ → ℕ → List Place
+  abbrev pub arc_list : ℕ → ℕ → List Place
   arc_list u v = if u == v then [] else open_at t (Arc (record { 0 = u }) (record { 0 = v }))
 
   -- ---- which place stands there
