@@ -1,22 +1,26 @@
 -- References of classes agree with the columns that belong to these.
-use Rattle.std.proofs.Common.{◌≡◌, ◌≢◌, ℕ, ◌<◌, Bool, true, false, not, ◌||◌, IsTrue, List, [], ◌∷◌, ◌⊎◌, zero, suc, length, get_or, Some, slice_get, subst, refl, sym, ap, ◌∙◌, inl, inr, arith}
-use Rattle.std.specs.List.{list_any}
-use Rattle.std.proofs.lemmas.Bool.{both_ways, or_parts, cases_order}
+use Rattle.std.proofs.Common.{◌≡◌, ◌≢◌, ℕ, ◌<◌, Bool, true, false, not, ◌||◌, IsTrue, List, [], ◌∷◌, ◌⊎◌, zero, suc, length, map, get_or, Some, slice_get, subst, refl, sym, ap, ◌∙◌, inl, inr, arith}
+use Rattle.std.specs.List.{list_any, All}
+use Rattle.std.proofs.lemmas.List.{get_or_past}
+use Rattle.std.proofs.lemmas.List.Elements.{All-get_or, All-contains}
+use Rattle.std.proofs.lemmas.Bool.{both_ways, or_parts, cases_order, cases_lt}
 use Rattle.cpog_defs.specs.declared.types.Bit3.{Bit3}
 use Rattle.cpog_defs.specs.declared.types.Bit3.TheVariants.{Zero, One, Free}
 use Rattle.cpog_defs.specs.declared.types.Ref.{Ref}
 use Rattle.cpog_defs.specs.declared.types.Ref.TheVariants.{Const as FixedRef, Signal}
 use Rattle.cpog_defs.specs.declared.types.Place.{Place}
 use Rattle.cpog_defs.specs.Entries.{Agrees, entry_at}
-use Rattle.cpog_defs.specs.Gates.{GateList, ref_value, signal_values}
+use Rattle.cpog_defs.specs.Gates.{GateList, ref_value, signal_values, IsRefOver}
 use Rattle.cpog_defs.specs.Graphs.{IsPlace, ref_of}
 use Rattle.cpog_defs.specs.Encodings.{Encoding, RefAgrees}
 use Rattle.cpog_base.specs.Column.{is_one, is_zero, opposite, Serves, Opposes}
 use Rattle.cpog_merge.specs.declared.class_list.Belongs.{Belongs}
 use Rattle.cpog_merge.specs.declared.class_list.Belongs.TheVariants.{Const, Class}
 use Rattle.cpog_merge.specs.Table.{Table, column_at, AgreesWithTable}
-use Rattle.cpog_merge.specs.Classes.{Classes, ServesAs, IsServedBy, class_column, belongs_at, BelongsToClass, BelongsTo, AreClassesOf}
+use Rattle.cpog_merge.specs.Classes.{ComesBefore, IsClass, Classes, ServesAs, IsServedBy, class_column, belongs_at, BelongsToClass, BelongsTo, AreClassesOf}
 use Rattle.cpog_merge.specs.ByClass.{signed_ref, class_ref, ref_by, AgreeWithClasses, IsGraphByClass}
+use Rattle.cpog_merge.proofs.ListLemmas.{same_ordered}
+use Rattle.cpog_merge.proofs.OpenLemmas.{one_way}
 
 -- ---- entries
 
@@ -125,3 +129,39 @@ belongs_to_one_lem list column (Class c x) (Class d y) h k = elim (cases_order c
     | inr more ↦ absurd (h.2.first d more (is_served y _ column k.2.serves))
   ]
 ]
+
+-- ---- references over the same signals
+
+signed_over : (signals : ℕ) (negated : Bool) (r : Ref) → IsRefOver signals r → IsRefOver signals (signed_ref negated r)
+signed_over signals false r h = h
+signed_over signals true (FixedRef b) h = tt
+signed_over signals true (Signal n negated) h = h
+
+class_over : (signals : ℕ) (refs : List Ref) (number : ℕ) → All (IsRefOver signals) refs → IsRefOver signals (class_ref refs number)
+class_over signals refs number h = elim (cases_lt number (length refs)) [
+  | inl l ↦ All-get_or (IsRefOver signals) refs number (FixedRef false) l h
+  | inr m ↦ subst (IsRefOver signals) (sym (get_or_past refs number (FixedRef false) m)) tt
+]
+
+pub references_stay_lem : (signals : ℕ) (refs : List Ref) (x : Belongs) → All (IsRefOver signals) refs → IsRefOver signals (ref_by refs x)
+references_stay_lem signals refs (Const b) h = tt
+references_stay_lem signals refs (Class number negated) h = signed_over signals negated (class_ref refs number) (class_over signals refs number h)
+
+-- ---- one list of classes
+
+-- what belongs to a class of one list belongs to that of another with the same columns
+moved : (a b : Classes) (column : List Bit3) (x : Belongs) → a.columns ≡ b.columns → BelongsTo a column x → BelongsTo b column x
+moved a b column (Const false) e h = h
+moved a b column (Const true) e h = h
+moved a b column (Class c negated) e h = (h.0, h.1, record {
+  in_range = omega (arith, ap length e, h.2.in_range);
+  serves = subst (λ cs. ServesAs negated (get_or cs c []) column) e h.2.serves;
+  first = λ k l served. h.2.first k l (subst (λ cs. IsServedBy column (get_or cs k [])) (sym e) served);
+})
+
+pub classes_are_one_lem : (t : Table) (a b : Classes) → AreClassesOf t a → AreClassesOf t b → (a.places ≡ b.places) × (a.columns ≡ b.columns) × ((p : Place) → IsPlace t.count p → belongs_at a p ≡ belongs_at b p)
+classes_are_one_lem t a b x y =
+    let places : a.places ≡ b.places = same_ordered ComesBefore one_way a.places b.places x.places.in_order y.places.in_order
+        (λ p h. y.places.all p (All-contains (IsClass t) a.places p x.places.each h)) (λ p h. x.places.all p (All-contains (IsClass t) b.places p y.places.each h)) in
+    let columns : a.columns ≡ b.columns = x.columns ∙ ap (map (column_at t)) places ∙ sym y.columns in
+    (places, columns, λ p l. belongs_to_one_lem b (column_at t p) (belongs_at a p) (belongs_at b p) (moved a b (column_at t p) (belongs_at a p) columns (x.belongs p l)) (y.belongs p l))

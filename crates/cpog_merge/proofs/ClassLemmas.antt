@@ -25,20 +25,15 @@ use Rattle.cpog_merge.proofs.ServingLemmas.{serves_decides, served_decides}
 use Rattle.cpog_merge.proofs.ChosenLemmas.{at, IsClassIn, class_from_test, test_from_class, HasClassIn, has_class}
 use Rattle.cpog_merge.proofs.OpenLemmas.{one_way, open_test, listed_open, open_listed, open_in_order, few_open}
 
--- a column has an entry for each scenario, and there are at most 64
-short_column : (t : Table) → IsTable t → (p : Place) → IsPlace t.count p → length (column_at t p) ≤ 64
-short_column t is (Op v) l =
-    let l' : v.0 < length t.ops = omega (arith, is.ops_each) in
-    let e : length (get_or t.ops v.0 []) ≡ t.scenarios = All-get_or (λ c. length c ≡ t.scenarios) t.ops v.0 [] l' is.op_entries in
-    omega (arith, is.few_scenarios)
-short_column t is (Arc u v) l =
+-- a column has an entry for each scenario
+pub column_size : (t : Table) → IsTable t → (p : Place) → IsPlace t.count p → length (column_at t p) ≡ t.scenarios
+column_size t is (Op v) l = All-get_or (λ c. length c ≡ t.scenarios) t.ops v.0 [] (omega (arith, is.ops_each)) is.op_entries
+column_size t is (Arc u v) l =
     let first : u.0 < t.count = l.0 in
     let second : v.0 < t.count = l.1 in
     let bound : suc v.0 * t.count ≤ t.count * t.count = mul-le-mul_right t.count (omega arith) in
     let more : suc v.0 * t.count ≡ v.0 * t.count + t.count = grind arith in
-    let l' : v.0 * t.count + u.0 < length t.arcs = omega (arith, is.arcs_each) in
-    let e : length (get_or t.arcs (v.0 * t.count + u.0) []) ≡ t.scenarios = All-get_or (λ c. length c ≡ t.scenarios) t.arcs (v.0 * t.count + u.0) [] l' is.arc_entries in
-    omega (arith, is.few_scenarios)
+    All-get_or (λ c. length c ≡ t.scenarios) t.arcs (v.0 * t.count + u.0) [] (omega (arith, is.arcs_each)) is.arc_entries
 
 module _ (t : Table) (is : IsTable t) where
   abbrev pub open_columns : List (List Bit3)
@@ -58,7 +53,7 @@ module _ (t : Table) (is : IsTable t) where
   open_there i d l = listed_open t (get_or (open_places t) i d) (Contains-get_or (open_places t) i d l)
 
   pub short_columns : All (λ c. length c ≤ 64) open_columns
-  short_columns = All-map (λ c. length c ≤ 64) (column_at t) (open_places t) (λ k d l. short_column t is (get_or (open_places t) k d) (open_there k d l).place)
+  short_columns = All-map (λ c. length c ≤ 64) (column_at t) (open_places t) (λ k d l. omega (arith, column_size t is (get_or (open_places t) k d) (open_there k d l).place, is.few_scenarios))
 
   -- ---- a class by its place in the list
 

@@ -3,7 +3,7 @@ use Rattle.std.proofs.Common.{◌≡◌, ◌≢◌, ℕ, zero, suc, ◌+◌, ◌
 use Rattle.std.specs.List.{All, AllPairs, Contains, sum_by}
 use Rattle.std.proofs.lemmas.Bool.{cases_lt, cases_eq}
 use Rattle.std.proofs.lemmas.List.{get_or_append_left, get_or-append_right, get_or_default}
-use Rattle.std.proofs.lemmas.List.Elements.{All-head, All-tail, Contains-append_left, Contains-append_right, Contains-append_cases, Contains-get_or}
+use Rattle.std.proofs.lemmas.List.Elements.{All-head, All-tail, All-contains, Contains-append_left, Contains-append_right, Contains-append_cases, Contains-get_or}
 use Rattle.std.proofs.lemmas.List.Sums.{sum_by-cons, sum_by-append}
 use Rattle.cpog_defs.specs.Orders.{each_below}
 
@@ -95,6 +95,40 @@ module _ {A : Type 0} where
     pairs_each_below f (suc n) each across =
         pairs_append (each_below f n) (f n) (pairs_each_below f n each (λ i j x y l m h k. across i j x y l (omega arith) h k)) (each n)
         (λ x y h k. let p = from_each_below f n x h in across p.0 n x y p.1 (omega arith) p.2 k)
+
+    -- two lists in order with the same elements are one
+    pub same_ordered : (one_way : (x y : A) → R x y → R y x → ⊥) (xs ys : List A) → AllPairs R xs → AllPairs R ys → ((z : A) → Contains xs z → Contains ys z) → ((z : A) → Contains ys z → Contains xs z) → xs ≡ ys
+    same_ordered one_way [] [] h k to from = refl
+    same_ordered one_way [] (y ∷ ys) h k to from = absurd (contains_nil y (from y (contains_head y ys)))
+    same_ordered one_way (x ∷ xs) [] h k to from = absurd (contains_nil x (to x (contains_head x xs)))
+    same_ordered one_way (x ∷ xs) (y ∷ ys) h k to from =
+        let first : y ≡ x = heads in
+        ap₂ (λ z zs. z ∷ zs) (sym first) (same_ordered one_way xs ys (pairs_tail x xs h) (pairs_tail y ys k) (onward first) (backward first))
+      where
+        heads : y ≡ x
+        heads = elim (contains_cons y ys x (to x (contains_head x xs))) [
+          | inl e ↦ e
+          | inr in_ys ↦ elim (contains_cons x xs y (from y (contains_head y ys))) [
+            | inl e ↦ sym e
+            | inr in_xs ↦ absurd (one_way x y (All-contains (R x) xs y (pairs_head x xs h) in_xs) (All-contains (R y) ys x (pairs_head y ys k) in_ys))
+          ]
+        ]
+
+        onward : y ≡ x → (z : A) → Contains xs z → Contains ys z
+        onward first z there = elim (contains_cons y ys z (to z (contains_tail x xs z there))) [
+          | inl e ↦
+              let r : R z z = subst (λ a. R a z) (sym first ∙ e) (All-contains (R x) xs z (pairs_head x xs h) there) in
+              absurd (one_way z z r r)
+          | inr in_ys ↦ in_ys
+        ]
+
+        backward : y ≡ x → (z : A) → Contains ys z → Contains xs z
+        backward first z there = elim (contains_cons x xs z (from z (contains_tail y ys z there))) [
+          | inl e ↦
+              let r : R z z = subst (λ a. R a z) (first ∙ e) (All-contains (R y) ys z (pairs_head y ys k) there) in
+              absurd (one_way z z r r)
+          | inr in_xs ↦ in_xs
+        ]
 
   -- ---- sums
 

@@ -3,7 +3,7 @@ use Rattle.std.proofs.Common.{◌≡◌, ◌≢◌, ℕ, ◌+◌, ◌*◌, ◌<�
 use Rattle.std.specs.List.{All}
 use Rattle.std.proofs.lemmas.Bool.{ne_eqb}
 use Rattle.std.proofs.lemmas.List.{length-map}
-use Rattle.std.proofs.lemmas.List.Elements.{All-get_or}
+use Rattle.std.proofs.lemmas.List.Elements.{All-get_or, All-map}
 use Rattle.cpog_defs.specs.declared.types.Bit3.{Bit3}
 use Rattle.cpog_defs.specs.declared.types.Place.{Place}
 use Rattle.cpog_defs.specs.declared.types.Place.TheVariants.{Op, Arc}
@@ -12,13 +12,19 @@ use Rattle.cpog_defs.specs.Graphs.{IsPlace}
 use Rattle.cpog_merge.specs.declared.class_list.Belongs.{Belongs}
 use Rattle.cpog_merge.specs.declared.class_list.Belongs.TheVariants.{Const}
 use Rattle.cpog_merge.specs.Table.{Table, IsTable, column_at}
-use Rattle.cpog_merge.specs.Classes.{IsClass, Classes, belongs_at, BelongsTo, AreClassPlaces, AreClassesOf, IsClassList}
+use Rattle.cpog_merge.specs.Classes.{IsClass, IsOpenColumn, Classes, belongs_at, BelongsTo, AreClassPlaces, AreClassesOf, IsClassList}
 use Rattle.cpog_merge.specs.Opens.{belonging, op_belongings, arc_belongings_from, arc_belongings, HaveClasses}
 use Rattle.cpog_merge.proofs.TableLemmas.{length-blocks, get-blocks, single}
-use Rattle.cpog_merge.proofs.ClassLemmas.{have_classes, belongs_as_said}
+use Rattle.cpog_merge.proofs.ClassLemmas.{column_size, have_classes, belongs_as_said}
 
 pub all_places : (t : Table) (places : List Place) → AreClassPlaces t places → All (IsPlace t.count) places
 all_places t places are = λ k d l. (All-get_or (IsClass t) places k d l are.each).is_open.place
+
+-- each class has an entry for each scenario, among them a 1 and a 0
+pub open_class_columns : (t : Table) → IsTable t → (list : Classes) → AreClassesOf t list → All (IsOpenColumn t.scenarios) list.columns
+open_class_columns t is list are = subst (All (IsOpenColumn t.scenarios)) (sym are.columns) (All-map (IsOpenColumn t.scenarios) (column_at t) list.places
+    (λ k d l. let o = (All-get_or (IsClass t) list.places k d l are.places.each).is_open in
+    record { entries = column_size t is (get_or list.places k d) o.place; some_one = o.some_one; some_zero = o.some_zero }))
 
 -- the list with these classes
 abbrev pub list_of : Table → List Place → Classes

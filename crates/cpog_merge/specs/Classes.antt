@@ -1,8 +1,8 @@
--- The classes of columns: those that must be told apart. A column that another serves, as it stands or complemented,
--- needs no condition of its own. Places stand in column order: operations by their numbers, then pairs by their first
--- and then their second. A place is open where its column asks for a 1 and for a 0; the others take a constant. A class
--- is an open place that no earlier one serves, and that serves each later one by which it is served: so of places that
--- serve each other the first is one, and of places that are served by larger ones none is.
+-- The classes of columns. Where one column serves another, each condition that meets the one meets the other too, as it
+-- stands or complemented, so the other needs none of its own. Places stand in column order: operations by their numbers,
+-- then pairs by their first and then by their second. A place is open where its column asks for a 1 somewhere and for a
+-- 0 elsewhere; any other takes a constant. Of open places that serve each other the first is a class, and a place that
+-- is served by one that it does not serve back is none. So each open place is served by a class.
 use Rattle.std.specs.Prelude.{◌≡◌, ℕ, ◌+◌, ◌*◌, ◌<◌, ◌≤◌, ◌⊎◌, Bool, true, false, IsTrue, List, [], length, map, slice_index_or}
 use Rattle.std.specs.List.{list_any, All, AllPairs, Contains}
 use Rattle.cpog_base.specs.Column.{is_one, is_zero, Serves, Opposes}
@@ -35,6 +35,12 @@ pub record IsOpen (t : Table) (p : Place) : Type 0 where
   pub place : IsPlace t.count p
   pub some_one : IsTrue (list_any is_one (column_at t p))
   pub some_zero : IsTrue (list_any is_zero (column_at t p))
+
+-- a column with so many entries, among them one that is 1 and one that is 0
+pub record IsOpenColumn (n : ℕ) (column : List Bit3) : Type 0 where
+  pub entries : length column ≡ n
+  pub some_one : IsTrue (list_any is_one column)
+  pub some_zero : IsTrue (list_any is_zero column)
 
 -- an open place that no earlier open one serves, and that serves each later open one that serves it
 pub record IsClass (t : Table) (p : Place) : Type 0 where

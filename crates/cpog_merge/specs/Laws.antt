@@ -3,14 +3,16 @@ use Rattle.std.specs.Prelude.{◌≡◌, ◌↔◌, ℕ, ◌*◌, ◌-◌, ◌�
 use Rattle.std.specs.List.{All, sum_by}
 use Rattle.cpog_defs.specs.declared.types.Bit3.{Bit3}
 use Rattle.cpog_defs.specs.declared.types.Ref.{Ref}
-use Rattle.cpog_defs.specs.Gates.{GateList}
+use Rattle.cpog_defs.specs.declared.types.Place.{Place}
+use Rattle.cpog_defs.specs.Graphs.{IsPlace}
+use Rattle.cpog_defs.specs.Gates.{GateList, IsRefOver}
 use Rattle.cpog_defs.specs.Orders.{Order, IsOrderOf}
 use Rattle.cpog_defs.specs.Scenarios.{Scenario, AreOrdersOf}
 use Rattle.cpog_defs.specs.Encodings.{Encoding, IsEncoding, Fits, FitsScenarios, RefAgrees, AgreesWithColumns}
 use Rattle.cpog_merge.specs.declared.class_list.Belongs.{Belongs}
 use Rattle.cpog_merge.specs.Table.{Table, count_of, AreColumnsOf, AgreesWithTable}
-use Rattle.cpog_merge.specs.Classes.{Classes, ServesAs, BelongsTo, AreClassesOf}
-use Rattle.cpog_merge.specs.ByClass.{signed_ref, AgreeWithClasses, IsGraphByClass}
+use Rattle.cpog_merge.specs.Classes.{Classes, ServesAs, belongs_at, BelongsTo, AreClassesOf}
+use Rattle.cpog_merge.specs.ByClass.{signed_ref, ref_by, AgreeWithClasses, IsGraphByClass}
 use Rattle.cpog_merge.specs.Smaller.{smaller_set}
 
 -- For all codes, gates and every conditional graph: the encoding fits the orders exactly where each condition has, on
@@ -32,6 +34,16 @@ ServedAgree =
 -- no column belongs to two constants or classes, or to one with both signs
 abbrev pub BelongsToOne : Type 0
 BelongsToOne = (list : Classes) (column : List Bit3) (x y : Belongs) → BelongsTo list column x → BelongsTo list column y → x ≡ y
+
+-- a table has one list of classes
+abbrev pub ClassesAreOne : Type 0
+ClassesAreOne =
+    (t : Table) (a b : Classes) → AreClassesOf t a → AreClassesOf t b →
+    (a.places ≡ b.places) × (a.columns ≡ b.columns) × ((p : Place) → IsPlace t.count p → belongs_at a p ≡ belongs_at b p)
+
+-- the reference that a column takes speaks of the signals of which those of the classes speak
+abbrev pub ReferencesStay : Type 0
+ReferencesStay = (signals : ℕ) (refs : List Ref) (x : Belongs) → All (IsRefOver signals) refs → IsRefOver signals (ref_by refs x)
 
 -- Where each class has a reference that agrees with it, a graph whose conditions are these references, complemented
 -- where the column is negated, and the constants, agrees with every column.

@@ -1,11 +1,14 @@
 //! The classes among the columns. The open columns are laid out in column order, one behind the other, so that each is
 //! compared with those before and behind it. Then each column looks for the first class that serves it.
 
-ghost use Rattle.std.specs.Prelude.{◌≡◌, ◌≢◌, ◌<◌, ◌≤◌, ◌^◌, [], ◌∷◌, ◌++◌, if◌then◌else◌, length, map, IfOk, OnOk};
+ghost use Rattle.std.specs.Prelude.{List, ◌≡◌, ◌≢◌, ◌<◌, ◌≤◌, ◌^◌, [], ◌∷◌, ◌++◌, if◌then◌else◌, length, map, IfOk, OnOk};
 ghost use Rattle.std.specs.List.{All};
 ghost use Rattle.cpog_defs.specs.Graphs.{IsPlace};
-ghost use Rattle.cpog_merge.specs.Table.{IsTable, column_at};
-ghost use Rattle.cpog_merge.specs.Classes.{AreClassPlaces, AreClassesOf};
+ghost use Rattle.cpog_defs.specs.declared.types.Ref.{Ref};
+ghost use Rattle.cpog_defs.specs.Encodings.{Encoding};
+ghost use Rattle.cpog_merge.specs.Table.{column_at, AgreesWithTable};
+ghost use Rattle.cpog_merge.specs.Classes.{AreClassPlaces, AreClassesOf, IsOpenColumn};
+ghost use Rattle.cpog_merge.specs.ByClass.{AgreeWithClasses, IsGraphByClass};
 ghost use Rattle.cpog_merge.specs.Opens.{is_open as is_open_column, open_ops, open_arcs_from, open_places as places_open, chosen, op_belongings, arc_belongings_from, arc_belongings, HaveClasses};
 
 use crate::class_list::{Belongs, ClassList};
@@ -170,7 +173,12 @@ fn pairs_belong(
 ///
 /// `Memory` where none is left.
 pub fn classes(alloc: Global, columns: &Columns) -> Result<ClassList, Memory>
-    ensures { IfOk result (λ list. AreClassesOf columns.now list) }
+    ensures classes { IfOk result (λ list. AreClassesOf columns.now list) }
+    ensures open_columns { IfOk result (λ list. All (IsOpenColumn columns.now.scenarios) list.columns) }
+
+    // Conditions that are those of the classes agree with all columns.
+    ensures graphs { IfOk result (λ list. (e : Encoding) (refs : List Ref) → length e.codes ≡ columns.now.scenarios →
+        AgreeWithClasses e.gates e.codes list refs → IsGraphByClass columns.now.count list refs e.graph → AgreesWithTable e columns.now) }
 {
     let count = columns.count();
     let places = class_places(alloc, columns)?;

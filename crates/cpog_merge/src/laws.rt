@@ -1,6 +1,6 @@
 //! What columns and their classes tell of encodings.
 
-ghost use Rattle.cpog_merge.specs.Laws.{FitsIsAgreeing, FitsIsFittingScenarios, ServedAgree, BelongsToOne, GraphByClassAgrees, SmallerSetsAreFew, JoiningIsBounded};
+ghost use Rattle.cpog_merge.specs.Laws.{FitsIsAgreeing, FitsIsFittingScenarios, ServedAgree, BelongsToOne, ClassesAreOne, ReferencesStay, GraphByClassAgrees, SmallerSetsAreFew, JoiningIsBounded};
 
 /// An encoding fits orders exactly where each of its conditions has, on each code, the value of its column's entry
 /// (Mokhov and Yakovlev 2010: the encoding constraints of a conditional partial order graph).
@@ -21,6 +21,16 @@ pub fn served_agree()
 /// A column belongs to one constant, or to one class with one sign.
 pub fn belongs_to_one()
     ensures { BelongsToOne }
+{}
+
+/// A table has one list of classes, and each of its columns belongs to one of them or to one constant.
+pub fn classes_are_one()
+    ensures { ClassesAreOne }
+{}
+
+/// The reference that a column takes by its class is over the same signals as those of the classes.
+pub fn references_stay()
+    ensures { ReferencesStay }
 {}
 
 /// A graph whose conditions are those of the classes agrees with every column.

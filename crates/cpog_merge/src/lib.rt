@@ -1,7 +1,8 @@
-//! The columns of a list of scenarios: what they ask of the condition of each operation and of each pair. The orders
-//! of `cpog_base`, their covering pairs of `order_reduce` and the definitions of `cpog_defs` stand below. It promises
-//! that each column is the one that is defined, and that an encoding fits the scenarios exactly where each of its
-//! conditions agrees with its column.
+//! The columns of a list of scenarios: what they ask of the condition of each operation and of each pair; and the
+//! classes of these columns, which alone need a condition of their own. The orders of `cpog_base`, their covering pairs
+//! of `order_reduce` and the definitions of `cpog_defs` stand below. It promises that each column is the one that is
+//! defined, that an encoding fits the scenarios exactly where each of its conditions agrees with its column, that the
+//! classes are exactly those that are defined, and that conditions of the classes serve all columns.
 #![tactic(auto)]
 
 mod choosing;
@@ -15,7 +16,8 @@ pub use choosing::classes;
 pub use class_list::{Belongs, ClassList};
 pub use filling::merge;
 pub use laws::{
-    belongs_to_one, fits_is_agreeing, fits_is_fitting_scenarios, graph_by_class_agrees,
-    joining_is_bounded, served_agree, smaller_sets_are_few,
+    belongs_to_one, classes_are_one, fits_is_agreeing, fits_is_fitting_scenarios,
+    graph_by_class_agrees, joining_is_bounded, references_stay, served_agree,
+    smaller_sets_are_few,
 };
 pub use table::Columns;
