@@ -1,5 +1,5 @@
 -- References of classes agree with the columns that belong to these.
-use Rattle.std.proofs.Common.{◌≡◌, ◌≢◌, ℕ, ◌<◌, Bool, true, false, not, ◌||◌, IsTrue, List, [], ◌∷◌, ◌⊎◌, zero, suc, length, map, get_or, Some, slice_get, subst, refl, sym, ap, ◌∙◌, inl, inr, arith}
+use Rattle.std.proofs.Common.{◌≡◌, ◌≢◌, ℕ, Bool, true, false, not, IsTrue, List, [], ◌∷◌, zero, suc, length, map, get_or, subst, refl, sym, ap, ◌∙◌, inl, inr, arith}
 use Rattle.std.specs.List.{list_any, All}
 use Rattle.std.proofs.lemmas.List.{get_or_past}
 use Rattle.std.proofs.lemmas.List.Elements.{All-get_or, All-contains}
@@ -11,13 +11,13 @@ use Rattle.cpog_defs.specs.declared.types.Ref.TheVariants.{Const as FixedRef, Si
 use Rattle.cpog_defs.specs.declared.types.Place.{Place}
 use Rattle.cpog_defs.specs.Entries.{Agrees, entry_at}
 use Rattle.cpog_defs.specs.Gates.{GateList, ref_value, signal_values, IsRefOver}
-use Rattle.cpog_defs.specs.Graphs.{IsPlace, ref_of}
+use Rattle.cpog_defs.specs.Graphs.{IsPlace}
 use Rattle.cpog_defs.specs.Encodings.{Encoding, RefAgrees}
 use Rattle.cpog_base.specs.Column.{is_one, is_zero, opposite, Serves, Opposes}
 use Rattle.cpog_merge.specs.declared.class_list.Belongs.{Belongs}
 use Rattle.cpog_merge.specs.declared.class_list.Belongs.TheVariants.{Const, Class}
 use Rattle.cpog_merge.specs.Table.{Table, column_at, AgreesWithTable}
-use Rattle.cpog_merge.specs.Classes.{ComesBefore, IsClass, Classes, ServesAs, IsServedBy, class_column, belongs_at, BelongsToClass, BelongsTo, AreClassesOf}
+use Rattle.cpog_merge.specs.Classes.{ComesBefore, IsClass, Classes, ServesAs, IsServedBy, class_column, belongs_at, BelongsTo, AreClassesOf}
 use Rattle.cpog_merge.specs.ByClass.{signed_ref, class_ref, ref_by, AgreeWithClasses, IsGraphByClass}
 use Rattle.cpog_merge.proofs.ListLemmas.{same_ordered}
 use Rattle.cpog_merge.proofs.OpenLemmas.{one_way}
@@ -153,15 +153,19 @@ references_stay_lem signals refs (Class number negated) h = signed_over signals 
 moved : (a b : Classes) (column : List Bit3) (x : Belongs) → a.columns ≡ b.columns → BelongsTo a column x → BelongsTo b column x
 moved a b column (Const false) e h = h
 moved a b column (Const true) e h = h
-moved a b column (Class c negated) e h = (h.0, h.1, record {
-  in_range = omega (arith, ap length e, h.2.in_range);
-  serves = subst (λ cs. ServesAs negated (get_or cs c []) column) e h.2.serves;
-  first = λ k l served. h.2.first k l (subst (λ cs. IsServedBy column (get_or cs k [])) (sym e) served);
-})
+moved a b column (Class c negated) e h = (
+  h.0,
+  h.1,
+  record {
+    in_range = omega (arith, ap length e, h.2.in_range);
+    serves = subst (λ cs. ServesAs negated (get_or cs c []) column) e h.2.serves;
+    first = λ k l served. h.2.first k l (subst (λ cs. IsServedBy column (get_or cs k [])) (sym e) served);
+  },
+)
 
 pub classes_are_one_lem : (t : Table) (a b : Classes) → AreClassesOf t a → AreClassesOf t b → (a.places ≡ b.places) × (a.columns ≡ b.columns) × ((p : Place) → IsPlace t.count p → belongs_at a p ≡ belongs_at b p)
 classes_are_one_lem t a b x y =
     let places : a.places ≡ b.places = same_ordered ComesBefore one_way a.places b.places x.places.in_order y.places.in_order
-        (λ p h. y.places.all p (All-contains (IsClass t) a.places p x.places.each h)) (λ p h. x.places.all p (All-contains (IsClass t) b.places p y.places.each h)) in
+    (λ p h. y.places.all p (All-contains (IsClass t) a.places p x.places.each h)) (λ p h. x.places.all p (All-contains (IsClass t) b.places p y.places.each h)) in
     let columns : a.columns ≡ b.columns = x.columns ∙ ap (map (column_at t)) places ∙ sym y.columns in
     (places, columns, λ p l. belongs_to_one_lem b (column_at t p) (belongs_at a p) (belongs_at b p) (moved a b (column_at t p) (belongs_at a p) columns (x.belongs p l)) (y.belongs p l))

@@ -1,13 +1,13 @@
 -- Which columns of a list are classes, and that one serves each column.
-use Rattle.std.proofs.Common.{◌≡◌, ◌≢◌, ◌↔◌, ℕ, zero, suc, ◌+◌, ◌-◌, ◌*◌, ◌<◌, ◌≤◌, Bool, true, false, not, ◌&&◌, ◌||◌, if◌then◌else◌, IsTrue, List, [], ◌∷◌, ◌++◌, ◌⊎◌, length, get_or, take, drop, refl, sym, ap, ◌∙◌, subst, inl, inr, arith}
-use Rattle.std.specs.List.{list_any, list_all, All, Contains}
-use Rattle.std.proofs.lemmas.Bool.{both_ways, cases_lt, cases_Bool, or_cases, or_parts, or_left, or_right, and_parts, and_from, and_cases, not-true, not-false, not_from_false, not_from_true, true_from_ne_false, false_from_ne_true}
+use Rattle.std.proofs.Common.{◌≡◌, ℕ, zero, suc, ◌+◌, ◌-◌, ◌*◌, ◌<◌, ◌≤◌, Bool, true, false, not, ◌&&◌, ◌||◌, IsTrue, List, [], ◌∷◌, length, get_or, take, drop, refl, sym, ap, ◌∙◌, subst, inl, inr, arith}
+use Rattle.std.specs.List.{list_any, list_all, All}
+use Rattle.std.proofs.lemmas.Bool.{both_ways, cases_lt, cases_Bool, or_cases, or_parts, or_left, or_right, and_parts, and_from, and_cases, not-true, not-false, not_from_false, false_from_ne_true}
 use Rattle.std.proofs.lemmas.List.{get_or-take, get_or-drop, get_or_default, length-take-le, length-drop}
 use Rattle.std.proofs.lemmas.List.Elements.{All-get_or}
 use Rattle.std.proofs.Math.Nat.{mul-le-mul_right}
 use Rattle.cpog_defs.specs.declared.types.Bit3.{Bit3}
 use Rattle.cpog_merge.specs.Classes.{IsServedBy}
-use Rattle.cpog_merge.specs.Opens.{serves, is_class, is_class_at}
+use Rattle.cpog_merge.specs.Opens.{serves, is_class_at}
 use Rattle.cpog_merge.proofs.ServingLemmas.{served_decides, serves_itself, served_through, asked_below, few_asked, larger_serves, serves_back_from}
 
 module _ {A : Type 0} (p : A → Bool) where
@@ -83,12 +83,12 @@ module _ (xs : List (List Bit3)) (i : ℕ) (l : i < length xs) where
   test_from_class h =
       and_from _ _
       (not_from_false _ (none_any (λ q. serves q (at xs i)) (take i xs) (λ k d m.
-          let n : k < i = omega (arith, front_size) in
-          false_from_ne_true _ (λ t. h.none_earlier k n ((served_decides (at xs k) (at xs i)).0 (ap (λ q. serves q (at xs i)) (there k d n) ∙ t))))))
+      let n : k < i = omega (arith, front_size) in
+      false_from_ne_true _ (λ t. h.none_earlier k n ((served_decides (at xs k) (at xs i)).0 (ap (λ q. serves q (at xs i)) (there k d n) ∙ t))))))
       (pass_all (λ q. not (serves q (at xs i)) || serves (at xs i) q) (drop (i + 1) xs) (λ k d m.
-          let n : i + 1 + k < length xs = omega (arith, length-drop (i + 1) xs) in
-          let e : get_or (drop (i + 1) xs) k d ≡ at xs (i + 1 + k) = get_or-drop (i + 1) xs k d ∙ get_or_default xs (i + 1 + k) d [] n in
-          subst (λ q. IsTrue (not (serves q (at xs i)) || serves (at xs i) q)) (sym e) (either (i + 1 + k) (omega arith) n)))
+      let n : i + 1 + k < length xs = omega (arith, length-drop (i + 1) xs) in
+      let e : get_or (drop (i + 1) xs) k d ≡ at xs (i + 1 + k) = get_or-drop (i + 1) xs k d ∙ get_or_default xs (i + 1 + k) d [] n in
+      subst (λ q. IsTrue (not (serves q (at xs i)) || serves (at xs i) q)) (sym e) (either (i + 1 + k) (omega arith) n)))
     where
       there : (k : ℕ) (d : List Bit3) → k < i → at xs k ≡ get_or (take i xs) k d
       there k d n = get_or_default xs k [] d (omega arith) ∙ sym (get_or-take i xs k d n)

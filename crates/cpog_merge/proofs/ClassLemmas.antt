@@ -1,12 +1,12 @@
 -- The places that are chosen are exactly the classes, in column order, and each column belongs as it should.
-use Rattle.std.proofs.Common.{◌≡◌, ◌≢◌, ◌↔◌, ℕ, zero, suc, ◌+◌, ◌*◌, ◌-◌, ◌<◌, ◌≤◌, ◌==◌, ◌^◌, Bool, true, false, not, ◌&&◌, ◌||◌, if◌then◌else◌, IsTrue, List, [], ◌∷◌, ◌++◌, ◌⊎◌, length, map, get_or, refl, sym, ap, ap₂, subst, ◌∙◌, inl, inr, arith, length-append}
-use Rattle.std.specs.List.{list_any, position_or_len, All, AllPairs, Contains}
-use Rattle.std.proofs.lemmas.Bool.{cases_Bool, cases_lt, cases_eq, cases_order, both_ways, ne_eqb, or_cases, and_parts, and_from, not_from_true, not_from_false}
+use Rattle.std.proofs.Common.{◌≡◌, ◌↔◌, ℕ, zero, suc, ◌+◌, ◌*◌, ◌<◌, ◌≤◌, Bool, true, false, not, if◌then◌else◌, IsTrue, List, [], ◌∷◌, length, map, get_or, refl, sym, ap, ap₂, subst, ◌∙◌, inl, inr, arith, length-append}
+use Rattle.std.specs.List.{list_any, All, AllPairs, Contains}
+use Rattle.std.proofs.lemmas.Bool.{cases_Bool, cases_lt, cases_eq, both_ways, or_cases, and_parts, and_from}
 use Rattle.std.specs.Bool.{Decides}
 use Rattle.std.proofs.lemmas.Bool.Decides.{same_from_decides}
 use Rattle.std.proofs.lemmas.List.{length-map, get_or-map, get_or_default}
 use Rattle.std.proofs.lemmas.List.Elements.{All-get_or, All-map, Contains-get_or}
-use Rattle.std.proofs.lemmas.List.Sums.{position_or_len_is, fails_before_first, passes_at_first, prefix_len-le-length}
+use Rattle.std.proofs.lemmas.List.Sums.{fails_before_first, passes_at_first}
 use Rattle.std.proofs.Math.Nat.{mul-le-mul_right}
 use Rattle.cpog_base.specs.Column.{is_one, is_zero, Serves}
 use Rattle.cpog_defs.specs.declared.types.Bit3.{Bit3}
@@ -14,16 +14,14 @@ use Rattle.cpog_defs.specs.declared.types.Place.{Place}
 use Rattle.cpog_defs.specs.declared.types.Place.TheVariants.{Op, Arc}
 use Rattle.cpog_defs.specs.Orders.{each_below}
 use Rattle.cpog_defs.specs.Graphs.{IsPlace}
-use Rattle.cpog_merge.specs.declared.class_list.Belongs.{Belongs}
-use Rattle.cpog_merge.specs.declared.class_list.Belongs.TheVariants.{Const, Class}
+use Rattle.cpog_merge.specs.declared.class_list.Belongs.TheVariants.{Class}
 use Rattle.cpog_merge.specs.Table.{Table, IsTable, column_at}
-use Rattle.cpog_merge.specs.Classes.{ComesBefore, ServesAs, IsServedBy, IsOpen, IsClass, Classes, class_column, belongs_at, BelongsToClass, BelongsTo, AreClassPlaces, AreClassesOf, IsClassList}
-use Rattle.cpog_merge.specs.Opens.{is_open, open_places, serves_as, serves, is_class_at, chosen, first_class, class_of, belonging, op_belongings, arc_belongings_from, arc_belongings, HasClass, HaveClasses}
+use Rattle.cpog_merge.specs.Classes.{ComesBefore, ServesAs, IsServedBy, IsOpen, IsClass, Classes, class_column, BelongsTo, AreClassPlaces}
+use Rattle.cpog_merge.specs.Opens.{open_places, serves_as, serves, is_class_at, chosen, first_class, belonging, HasClass, HaveClasses}
 use Rattle.cpog_merge.proofs.ListLemmas.{contains_head, contains_nil, contains_one, in_each_below, from_each_below, pairs_nil, pairs_one, pairs_each_below}
-use Rattle.cpog_merge.proofs.TableLemmas.{length-blocks, get-blocks, single}
 use Rattle.cpog_merge.proofs.ServingLemmas.{serves_decides, served_decides}
-use Rattle.cpog_merge.proofs.ChosenLemmas.{at, IsClassIn, class_from_test, test_from_class, HasClassIn, has_class}
-use Rattle.cpog_merge.proofs.OpenLemmas.{one_way, open_test, listed_open, open_listed, open_in_order, few_open}
+use Rattle.cpog_merge.proofs.ChosenLemmas.{at, IsClassIn, class_from_test, test_from_class, has_class}
+use Rattle.cpog_merge.proofs.OpenLemmas.{one_way, listed_open, open_listed, open_in_order, few_open}
 
 -- a column has an entry for each scenario
 pub column_size : (t : Table) → IsTable t → (p : Place) → IsPlace t.count p → length (column_at t p) ≡ t.scenarios
@@ -100,7 +98,7 @@ module _ (t : Table) (is : IsTable t) where
                 absurd (one_way q q loop loop)
             | inr other ↦
                 let back : ComesBefore q (get_or (open_places t) i d) =
-                    subst (λ z. ComesBefore z (get_or (open_places t) i d)) (get_or_default (open_places t) k d q m ∙ e) (open_in_order t k i d (omega arith) l) in
+                subst (λ z. ComesBefore z (get_or (open_places t) i d)) (get_or_default (open_places t) k d q m ∙ e) (open_in_order t k i d (omega arith) l) in
                 absurd (one_way q (get_or (open_places t) i d) back after)
           ]
         ]
@@ -114,7 +112,7 @@ module _ (t : Table) (is : IsTable t) where
       serves_back = λ k more n served.
           let m : k < length (open_places t) = omega (arith, size) in
           let back = h.serves_back (get_or (open_places t) k d) (open_there k d m) (open_in_order t i k d more m)
-              (subst (λ c. IsServedBy c (column_at t (get_or (open_places t) k d))) (column_there i d l) (subst (IsServedBy (at open_columns i)) (column_there k d m) served)) in
+          (subst (λ c. IsServedBy c (column_at t (get_or (open_places t) k d))) (column_there i d l) (subst (IsServedBy (at open_columns i)) (column_there k d m) served)) in
           subst (λ c. IsServedBy c (at open_columns i)) (sym (column_there k d m)) (subst (IsServedBy (column_at t (get_or (open_places t) k d))) (sym (column_there i d l)) back);
     }
 
@@ -224,7 +222,7 @@ module _ (t : Table) (is : IsTable t) where
         let class : Place = get_or (open_places t) found.class p in
         let q = are.all class (class_from found.class p m (class_from_test open_columns found.class found.in_range found.is_class)) in
         let served : IsServedBy (column_at t p) (column_at t (get_or (open_places t) found.class p)) =
-            at_columns r.0 found.class p p r.1 m (ap (column_at t) r.2) found.serves in
+        at_columns r.0 found.class p p r.1 m (ap (column_at t) r.2) found.serves in
         found_there places class (column_at t p) q.0 q.1 q.2 served;
   }
 
@@ -236,10 +234,10 @@ pub belongs_class : (classes : List (List Bit3)) (column found : List Bit3) (num
 belongs_class classes column found number b one none has is at_number tells =
     let l : first_class classes column < length classes = has (and_from _ _ one none) in
     let e : found ≡ get_or classes (first_class classes column) [] =
-        at_number ∙ ap (λ n. get_or classes n found) is ∙ get_or_default classes (first_class classes column) found [] l in
+    at_number ∙ ap (λ n. get_or classes n found) is ∙ get_or_default classes (first_class classes column) found [] l in
     let sign : b ≡ serves_as false (get_or classes (first_class classes column) []) column =
-        same_from_decides {P = Serves found column} b (serves_as false (get_or classes (first_class classes column) []) column) tells
-        (subst (λ c. Decides (serves_as false (get_or classes (first_class classes column) []) column) (Serves c column)) (sym e) (serves_decides false (get_or classes (first_class classes column) []) column)) in
+    same_from_decides {P = Serves found column} b (serves_as false (get_or classes (first_class classes column) []) column) tells
+    (subst (λ c. Decides (serves_as false (get_or classes (first_class classes column) []) column) (Serves c column)) (sym e) (serves_decides false (get_or classes (first_class classes column) []) column)) in
     rw (one, none) (ap₂ (λ n s. Class n (not s)) is sign)
 
 -- what is computed is what it belongs to
@@ -248,13 +246,17 @@ belongs_as_said list column has = elim (cases_Bool (list_any is_one column)) [
   | inr none ↦ rw none none
   | inl one ↦ elim (cases_Bool (list_any is_zero column)) [
     | inr none ↦ rw (one, none) (one, none)
-    | inl some ↦ rw (one, some) (one, some, record {
+    | inl some ↦ rw (one, some) (
+      one,
+      some,
+      record {
         in_range = range one some;
         serves = signed (serves_as false class column) refl (range one some);
         first = λ k less served.
             let fails = fails_before_first (λ b. serves b column) list.columns k [] less in
             both_ways _ fails ((served_decides (class_column list k) column).1 served);
-      })
+      },
+    )
   ]
 ]
   where

@@ -17,7 +17,7 @@ use Rattle.cpog_defs.specs.Graphs.{ConditionalGraph, op_ref, arc_ref, ref_of, ke
 use Rattle.cpog_defs.specs.Encodings.{Encoding, IsEncoding, RefAgrees, AgreesWithColumns, Fits}
 use Rattle.cpog_defs.proofs.WalkLemmas.{replaced, walked, covered_walk}
 use Rattle.order_reduce.proofs.CoveredLemmas.{covered_from, covered_tells}
-use Rattle.cpog_merge.specs.Table.{Table, column_at, count_of, AreColumnsOf, AgreesWithTable}
+use Rattle.cpog_merge.specs.Table.{Table, count_of, AreColumnsOf, AgreesWithTable}
 
 -- ---- an entry, by the tests that it is made of
 

@@ -10,3 +10,4 @@ pub mod ChosenLemmas
 pub mod OpenLemmas
 pub mod ClassLemmas
 pub mod ListedLemmas
+pub mod AloneLemmas

@@ -2,7 +2,7 @@
 use Rattle.std.proofs.Common.{◌≡◌, ◌≢◌, ℕ, zero, suc, ◌+◌, ◌-◌, ◌*◌, ◌<◌, ◌≤◌, List, [], ◌∷◌, ◌++◌, ◌⊎◌, length, get_or, refl, sym, ap, ap₂, append_assoc, add-one, ◌∙◌, subst, inl, inr, arith, length-append}
 use Rattle.std.specs.List.{All, AllPairs, Contains, sum_by}
 use Rattle.std.proofs.lemmas.Bool.{cases_lt, cases_eq}
-use Rattle.std.proofs.lemmas.List.{get_or_append_left, get_or-append_right, get_or_default}
+use Rattle.std.proofs.lemmas.List.{get_or_append_left, get_or-append_right}
 use Rattle.std.proofs.lemmas.List.Elements.{All-head, All-tail, All-contains, Contains-append_left, Contains-append_right, Contains-append_cases, Contains-get_or}
 use Rattle.std.proofs.lemmas.List.Sums.{sum_by-cons, sum_by-append}
 use Rattle.cpog_defs.specs.Orders.{each_below}
@@ -141,7 +141,7 @@ module _ {A : Type 0} where
         let front : List A = p.0 in
         let back : List A = p.1 in
         let rest : All (Contains (front ++ back)) xs =
-            λ k d l. contains_other front x back (get_or xs k d) (subst (λ zs. Contains zs (get_or xs k d)) p.2 (All-tail (Contains ys) x xs within k d l)) (pairs_head (λ x y. x ≢ y) x xs different k d l) in
+        λ k d l. contains_other front x back (get_or xs k d) (subst (λ zs. Contains zs (get_or xs k d)) p.2 (All-tail (Contains ys) x xs within k d l)) (pairs_head (λ x y. x ≢ y) x xs different k d l) in
         let ih : sum_by f xs ≤ sum_by f (front ++ back) = sum_of_some xs (front ++ back) (pairs_tail (λ x y. x ≢ y) x xs different) rest in
         let whole : sum_by f ys ≡ sum_by f front + (f x + sum_by f back) = ap (sum_by f) p.2 ∙ sum_by-append f front (x ∷ back) ∙ ap (λ k. sum_by f front + k) (sum_by-cons f x back) in
         omega (arith, sum_by-cons f x xs, sum_by-append f front back)

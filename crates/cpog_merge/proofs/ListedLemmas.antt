@@ -1,5 +1,5 @@
 -- The list that is made of the places of the classes says what it must.
-use Rattle.std.proofs.Common.{◌≡◌, ◌≢◌, ℕ, ◌+◌, ◌*◌, ◌<◌, ◌≤◌, ◌==◌, false, if◌then◌else◌, List, [], ◌∷◌, length, map, get_or, refl, sym, ap, subst, ◌∙◌, arith}
+use Rattle.std.proofs.Common.{◌≡◌, ℕ, ◌≤◌, ◌==◌, false, if◌then◌else◌, List, [], ◌∷◌, length, map, get_or, refl, sym, ap, subst, ◌∙◌, arith}
 use Rattle.std.specs.List.{All}
 use Rattle.std.proofs.lemmas.Bool.{ne_eqb}
 use Rattle.std.proofs.lemmas.List.{length-map}
@@ -7,13 +7,12 @@ use Rattle.std.proofs.lemmas.List.Elements.{All-get_or, All-map}
 use Rattle.cpog_defs.specs.declared.types.Bit3.{Bit3}
 use Rattle.cpog_defs.specs.declared.types.Place.{Place}
 use Rattle.cpog_defs.specs.declared.types.Place.TheVariants.{Op, Arc}
-use Rattle.cpog_defs.specs.Orders.{each_below}
 use Rattle.cpog_defs.specs.Graphs.{IsPlace}
 use Rattle.cpog_merge.specs.declared.class_list.Belongs.{Belongs}
 use Rattle.cpog_merge.specs.declared.class_list.Belongs.TheVariants.{Const}
 use Rattle.cpog_merge.specs.Table.{Table, IsTable, column_at}
 use Rattle.cpog_merge.specs.Classes.{IsClass, IsOpenColumn, Classes, belongs_at, BelongsTo, AreClassPlaces, AreClassesOf, IsClassList}
-use Rattle.cpog_merge.specs.Opens.{belonging, op_belongings, arc_belongings_from, arc_belongings, HaveClasses}
+use Rattle.cpog_merge.specs.Opens.{belonging, op_belongings, arc_belongings_from, arc_belongings}
 use Rattle.cpog_merge.proofs.TableLemmas.{length-blocks, get-blocks, single}
 use Rattle.cpog_merge.proofs.ClassLemmas.{column_size, have_classes, belongs_as_said}
 

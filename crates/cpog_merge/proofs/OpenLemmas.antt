@@ -1,7 +1,7 @@
 -- The list of the open places: exactly these, in column order.
-use Rattle.std.proofs.Common.{◌≡◌, ◌≢◌, ℕ, zero, suc, ◌+◌, ◌*◌, ◌-◌, ◌<◌, ◌≤◌, ◌==◌, Bool, true, false, ◌&&◌, cond, if◌then◌else◌, IsTrue, List, [], ◌∷◌, ◌++◌, ◌⊎◌, length, get_or, refl, sym, ap, subst, ◌∙◌, inl, inr, arith, length-append}
-use Rattle.std.specs.List.{list_any, All, AllPairs, Contains}
-use Rattle.std.proofs.lemmas.Bool.{cases_Bool, cases_eq, cases_order, both_ways, ne_eqb, eqb-true, eqb-false, eq-eqb, and_parts, and_from}
+use Rattle.std.proofs.Common.{◌≡◌, ◌≢◌, ℕ, zero, suc, ◌+◌, ◌*◌, ◌<◌, ◌≤◌, ◌==◌, Bool, true, false, if◌then◌else◌, IsTrue, List, [], ◌∷◌, length, refl, subst, inl, inr, arith, length-append}
+use Rattle.std.specs.List.{list_any, AllPairs, Contains}
+use Rattle.std.proofs.lemmas.Bool.{cases_eq, ne_eqb, eqb-false, eq-eqb, and_parts, and_from}
 use Rattle.std.proofs.lemmas.List.Elements.{Contains-append_left, Contains-append_right, Contains-append_cases}
 use Rattle.cpog_base.specs.Column.{is_one, is_zero}
 use Rattle.cpog_defs.specs.declared.types.Place.{Place}

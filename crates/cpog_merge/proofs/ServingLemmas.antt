@@ -1,18 +1,16 @@
 -- Which columns serve which: a preorder, and how the tests tell it.
-use Rattle.std.proofs.Common.{◌≡◌, ◌≢◌, ◌↔◌, ℕ, zero, suc, ◌+◌, ◌-◌, ◌*◌, ◌<◌, ◌≤◌, Bool, true, false, not, ◌&&◌, ◌||◌, cond, IsTrue, List, [], ◌∷◌, ◌⊎◌, length, get_or, take, drop, refl, sym, ap, ap₂, ◌∙◌, subst, inl, inr, arith}
+use Rattle.std.proofs.Common.{◌≡◌, ◌≢◌, ℕ, zero, suc, ◌+◌, ◌<◌, ◌≤◌, Bool, true, false, List, ◌⊎◌, length, refl, sym, ap, ◌∙◌, inl, inr, arith}
 use Rattle.std.specs.Bool.{Decides}
-use Rattle.std.specs.List.{list_any, list_all}
-use Rattle.std.proofs.lemmas.Bool.{both_ways, cases_lt, cases_eq, cases_Bool, or_cases, or_parts, or_left, or_right, and_parts, and_from, and_cases, not-true, not-false, not_from_false, not_from_true, true_from_ne_false, false_from_ne_true}
-use Rattle.std.proofs.lemmas.Bool.Decides.{same_from_decides, Decides-below_and, Decides-or}
-use Rattle.std.proofs.lemmas.List.{get_or_past, get_or-take, get_or-drop, length-take-le, length-drop, get_or_default}
-use Rattle.std.proofs.Math.Nat.{mul-le-mul_right}
+use Rattle.std.proofs.lemmas.Bool.{both_ways, cases_lt, cases_eq}
+use Rattle.std.proofs.lemmas.Bool.Decides.{Decides-below_and, Decides-or}
+use Rattle.std.proofs.lemmas.List.{get_or_past}
 use Rattle.cpog_defs.specs.declared.types.Bit3.{Bit3}
 use Rattle.cpog_defs.specs.declared.types.Bit3.TheVariants.{Zero, One, Free}
 use Rattle.cpog_defs.specs.Orders.{all_below}
 use Rattle.cpog_defs.specs.Entries.{entry_at}
-use Rattle.cpog_base.specs.Column.{opposite, Serves, Opposes}
+use Rattle.cpog_base.specs.Column.{opposite}
 use Rattle.cpog_merge.specs.Classes.{ServesAs, IsServedBy}
-use Rattle.cpog_merge.specs.Opens.{meets, serves_as, serves, is_class, is_class_at}
+use Rattle.cpog_merge.specs.Opens.{meets, serves_as, serves}
 
 -- ---- the tests
 
@@ -42,11 +40,11 @@ pub serves_decides : (negated : Bool) (b a : List Bit3) → Decides (serves_as n
 unfolding serves_as
 serves_decides false b a =
     let d = Decides-below_and (λ s. meets false (entry_at b s) (entry_at a s)) (λ s. entry_at a s ≢ Free → entry_at b s ≡ entry_at a s)
-        (all_below (λ s. meets false (entry_at b s) (entry_at a s))) (λ s. same_met (entry_at b s) (entry_at a s)) refl (λ _. refl) (length a) in
+    (all_below (λ s. meets false (entry_at b s) (entry_at a s))) (λ s. same_met (entry_at b s) (entry_at a s)) refl (λ _. refl) (length a) in
     (λ t s asked. d.0 t s (in_column a s asked) asked, λ h. d.1 (λ s _. h s))
 serves_decides true b a =
     let d = Decides-below_and (λ s. meets true (entry_at b s) (entry_at a s)) (λ s. entry_at a s ≢ Free → entry_at b s ≡ opposite (entry_at a s))
-        (all_below (λ s. meets true (entry_at b s) (entry_at a s))) (λ s. other_met (entry_at b s) (entry_at a s)) refl (λ _. refl) (length a) in
+    (all_below (λ s. meets true (entry_at b s) (entry_at a s))) (λ s. other_met (entry_at b s) (entry_at a s)) refl (λ _. refl) (length a) in
     (λ t s asked. d.0 t s (in_column a s asked) asked, λ h. d.1 (λ s _. h s))
 
 pub served_decides : (b a : List Bit3) → Decides (serves b a) (IsServedBy a b)

@@ -1,11 +1,10 @@
 -- The smaller sets of the classes, summed over all classes, are few.
-use Rattle.std.proofs.Common.{◌≡◌, ◌≢◌, ℕ, zero, suc, ◌+◌, ◌-◌, ◌*◌, ◌/◌, ◌<◌, ◌≤◌, ◌==◌, min, Bool, true, false, ◌&&◌, not, cond, if◌then◌else◌, IsTrue, List, [], ◌∷◌, ◌++◌, ◌⊎◌, length, map, get_or, refl, sym, ap, ap₂, subst, ◌∙◌, inl, inr, arith, add-zero, length-append}
+use Rattle.std.proofs.Common.{◌≡◌, ◌≢◌, ℕ, zero, suc, ◌+◌, ◌-◌, ◌*◌, ◌/◌, ◌<◌, ◌≤◌, ◌==◌, Bool, true, false, ◌&&◌, not, cond, if◌then◌else◌, IsTrue, List, [], ◌∷◌, ◌++◌, length, map, get_or, refl, sym, ap, ap₂, subst, ◌∙◌, inl, inr, arith, add-zero}
 use Rattle.std.specs.List.{All, AllPairs, Contains, count_by, sum_by}
 use Rattle.std.specs.Ordering.{nat_cmp}
 use Rattle.std.specs.Cmp.{nat_cmp_total, unsigned_tied}
 use Rattle.std.specs.FinSet as set
 use Rattle.std.proofs.lemmas.Bool.{cases_Bool, cases_eq, both_ways, ne_eqb, eq-eqb, and_parts}
-use Rattle.std.proofs.lemmas.Bool.Decides.{nat_tests}
 use Rattle.std.proofs.lemmas.List.Elements.{All-get_or, All-contains, All-head, All-tail, All-map, Contains-append_left, Contains-append_right}
 use Rattle.std.proofs.lemmas.List.{length-map}
 use Rattle.std.proofs.lemmas.List.Sums.{sum_by-cons, sum_by-append, sum_by-le-sum_by}
@@ -17,12 +16,12 @@ use Rattle.cpog_defs.specs.declared.types.Place.{Place}
 use Rattle.cpog_defs.specs.declared.types.Place.TheVariants.{Op, Arc}
 use Rattle.cpog_defs.specs.Orders.{Set, Order, IsOrder, IsOrderOf, has, is_before, is_covered, each_below, arc_of, covering_pairs}
 use Rattle.cpog_defs.specs.Graphs.{IsPlace}
-use Rattle.cpog_defs.specs.Columns.{op_entry, arc_entry, entry, column}
+use Rattle.cpog_defs.specs.Columns.{entry, column}
 use Rattle.order_reduce.proofs.PairCount.{few_covers}
 use Rattle.cpog_merge.specs.Table.{Table, column_at, count_of, AreColumnsOf}
 use Rattle.cpog_merge.specs.Classes.{ComesBefore, IsClass, Classes, AreClassesOf}
 use Rattle.cpog_merge.specs.Smaller.{smaller_set}
-use Rattle.cpog_merge.proofs.ListLemmas.{contains_head, in_each_below, sum_of_some, sum_below, sum_by_bound, sum_by_same, sum_by_swap}
+use Rattle.cpog_merge.proofs.ListLemmas.{contains_head, in_each_below, sum_of_some, sum_below, sum_by_bound, sum_by_swap}
 
 -- ---- all places
 
@@ -76,7 +75,7 @@ few_members orders (Op v) =
     omega arith
 few_members orders (Arc u v) =
     let few : count_by is_one (column orders (Arc u v)) ≤ sum_by (member (Arc u v)) orders =
-        counted is_one (entry (Arc u v)) (member (Arc u v)) orders (λ o. covers (has o u.0 && has o v.0) (is_covered o u.0 v.0) (is_before o u.0 v.0)) in
+    counted is_one (entry (Arc u v)) (member (Arc u v)) orders (λ o. covers (has o u.0 && has o v.0) (is_covered o u.0 v.0) (is_before o u.0 v.0)) in
     omega arith
 
 -- ---- one scenario is in few smaller sets
@@ -94,7 +93,7 @@ failing_same p q (suc n) h = ap₂ (λ a b. a + cond b 0 1) (failing_same p q n 
 failing_few : (n : ℕ) (s : Set) → ((v : ℕ) → IsTrue (set.contains s v) → v < n) → failing (set.contains s) n + set.len s ≤ n
 failing_few zero s below =
     let none : s ≡ set.empty = set.same_set nat_cmp_total set.nat_cmp-IsAntisymmetric s set.empty
-        (λ v. elim (cases_Bool (set.contains s v)) [ inl t ↦ absurd (let l = below v t in omega arith) | inr f ↦ f ∙ sym (set.contains-empty nat_cmp v) ]) in
+    (λ v. elim (cases_Bool (set.contains s v)) [ inl t ↦ absurd (let l = below v t in omega arith) | inr f ↦ f ∙ sym (set.contains-empty nat_cmp v) ]) in
     let size : set.len s ≡ 0 = ap set.len none ∙ set.len-empty nat_cmp in
     omega arith
 failing_few (suc n) s below = elim (cases_Bool (set.contains s n)) [
@@ -103,16 +102,16 @@ failing_few (suc n) s below = elim (cases_Bool (set.contains s n)) [
       let size : set.len rest ≡ set.len s - 1 = set.len-remove nat_cmp_total s n ∙ rw t refl in
       let without : (v : ℕ) → set.contains rest v ≡ (not (v == n) && set.contains s v) = λ v. set.contains-remove nat_cmp_total s n v ∙ ap (λ b. not b && set.contains s v) (unsigned_tied v n) in
       let below_n : (v : ℕ) → IsTrue (set.contains rest v) → v < n =
-          λ v k. let both = and_parts _ _ (sym (without v) ∙ k) in let l = below v both.1 in elim (cases_eq v n) [
-            | inl same ↦ absurd (both_ways _ (ap not (eq-eqb v n same)) both.0)
-            | inr other ↦ omega arith
-          ] in
+      λ v k. let both = and_parts _ _ (sym (without v) ∙ k) in let l = below v both.1 in elim (cases_eq v n) [
+        | inl same ↦ absurd (both_ways _ (ap not (eq-eqb v n same)) both.0)
+        | inr other ↦ omega arith
+      ] in
       let same : failing (set.contains rest) n ≡ failing (set.contains s) n =
-          failing_same (set.contains rest) (set.contains s) n (λ i l. without i ∙ rw (ne_eqb i n (λ e. absurd (omega arith))) refl) in
+      failing_same (set.contains rest) (set.contains s) n (λ i l. without i ∙ rw (ne_eqb i n (λ e. absurd (omega arith))) refl) in
       rw t (omega (arith, failing_few n rest below_n))
   | inr f ↦
       let below_n : (v : ℕ) → IsTrue (set.contains s v) → v < n =
-          λ v k. let l = below v k in elim (cases_eq v n) [ inl same ↦ absurd (both_ways _ f (subst (λ w. IsTrue (set.contains s w)) same k)) | inr other ↦ omega arith ] in
+      λ v k. let l = below v k in elim (cases_eq v n) [ inl same ↦ absurd (both_ways _ f (subst (λ w. IsTrue (set.contains s w)) same k)) | inr other ↦ omega arith ] in
       rw f (omega (arith, failing_few n s below_n))
 ]
 
@@ -201,7 +200,7 @@ module _ (orders : List Order) (t : Table) (list : Classes) (alike : All (IsOrde
   pub smaller_sets_lem : sum_by smaller_set list.columns ≤ length orders * 1024
   smaller_sets_lem =
       let different : AllPairs (λ x y. x ≢ y) list.places =
-          λ i j d l m. λ e. not_itself (get_or list.places j d) (subst (λ p. ComesBefore p (get_or list.places j d)) e (classes.places.in_order i j d l m)) in
+      λ i j d l m. λ e. not_itself (get_or list.places j d) (subst (λ p. ComesBefore p (get_or list.places j d)) e (classes.places.in_order i j d l m)) in
       let within : All (Contains (places (count_of orders))) list.places = λ k d l. is_there (count_of orders) (get_or list.places k d) (is_place k d l) in
       let some = sum_of_some (λ p. smaller_set (column orders p)) list.places (places (count_of orders)) different within in
       rw (classes.columns, over_columns list.places is_place) (omega (arith, some, over_all))

@@ -1,7 +1,7 @@
 -- The lists from which the classes are chosen.
 use Rattle.std.specs.Prelude.{ℕ, ◌+◌, ◌==◌, ◌<◌, Bool, IsTrue, not, true, false, ◌&&◌, ◌||◌, if◌then◌else◌, List, [], ◌∷◌, ◌++◌, length, take, drop, slice_index_or}
 use Rattle.std.specs.List.{list_any, list_all, position_or_len}
-use Rattle.cpog_base.specs.Column.{is_one, is_zero, opposite}
+use Rattle.cpog_base.specs.Column.{is_one, is_zero}
 use Rattle.cpog_defs.specs.declared.types.Bit3.{Bit3}
 use Rattle.cpog_defs.specs.declared.types.Bit3.TheVariants.{Zero, One, Free}
 use Rattle.cpog_defs.specs.declared.types.Place.{Place}

@@ -1,6 +1,6 @@
 -- How many scenarios the classes tell apart.
 use Rattle.std.specs.Prelude.{ℕ, List, min}
-use Rattle.std.specs.List.{count_by, sum_by}
+use Rattle.std.specs.List.{count_by}
 use Rattle.cpog_base.specs.Column.{is_one, is_zero}
 use Rattle.cpog_defs.specs.declared.types.Bit3.{Bit3}
 

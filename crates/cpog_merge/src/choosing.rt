@@ -185,11 +185,5 @@ pub fn classes(alloc: Global, columns: &Columns) -> Result<ClassList, Memory>
     let class_columns = columns_of(alloc, columns, &places)?;
     let ops = operations_belong(alloc, columns, &class_columns)?;
     let arcs = pairs_belong(alloc, columns, &class_columns)?;
-    Ok(ClassList::from_vecs(
-        count,
-        places,
-        class_columns,
-        ops,
-        arcs,
-    ))
+    Ok(ClassList::from_vecs(count, places, class_columns, ops, arcs))
 }

@@ -17,7 +17,9 @@ pub use class_list::{Belongs, ClassList};
 pub use filling::merge;
 pub use laws::{
     belongs_to_one, classes_are_one, fits_is_agreeing, fits_is_fitting_scenarios,
-    graph_by_class_agrees, joining_is_bounded, references_stay, served_agree,
-    smaller_sets_are_few,
+    graph_by_class_agrees, joining_is_bounded, references_stay, served_agree, smaller_sets_are_few,
 };
 pub use table::Columns;
+
+#[cfg(test)]
+mod tests;

@@ -18,10 +18,10 @@ returns-clause-places c =
     let t = c.args.columns.now in
     let is = c.count-count.ensures.table in
     let columns : c.deref-3.result.now ≡ open_columns t is =
-        c.deref-3.ensures.value ∙ c.in_ok-open_columns.ensures ∙ ap (map (column_at t)) (c.deref.ensures.value ∙ c.in_ok-open.ensures) in
+    c.deref-3.ensures.value ∙ c.in_ok-open_columns.ensures ∙ ap (map (column_at t)) (c.deref.ensures.value ∙ c.in_ok-open.ensures) in
     let open_there : c.deref-2.result.now ≡ open_places t = c.deref-2.ensures.value ∙ c.in_ok-open.ensures in
     let list : chosen c.deref-3.result.now c.deref-2.result.now (length c.deref-3.result.now) ≡ class_list t is =
-        ap₂ (λ xs ps. chosen xs ps (length xs)) columns open_there in
+    ap₂ (λ xs ps. chosen xs ps (length xs)) columns open_there in
     IfOk-weaker c.choose.result _ _ (λ places h. subst (AreClassPlaces t) (sym (h ∙ list)) (are_class_places t is)) c.choose.ensures
 
 pub returns-clause-few : goal.returns-clause-few
@@ -29,8 +29,8 @@ returns-clause-few c =
     let t = c.args.columns.now in
     let is = c.count-count.ensures.table in
     let columns : c.deref-3.result.now ≡ open_columns t is =
-        c.deref-3.ensures.value ∙ c.in_ok-open_columns.ensures ∙ ap (map (column_at t)) (c.deref.ensures.value ∙ c.in_ok-open.ensures) in
+    c.deref-3.ensures.value ∙ c.in_ok-open_columns.ensures ∙ ap (map (column_at t)) (c.deref.ensures.value ∙ c.in_ok-open.ensures) in
     let open_there : c.deref-2.result.now ≡ open_places t = c.deref-2.ensures.value ∙ c.in_ok-open.ensures in
     let list : chosen c.deref-3.result.now c.deref-2.result.now (length c.deref-3.result.now) ≡ class_list t is =
-        ap₂ (λ xs ps. chosen xs ps (length xs)) columns open_there in
+    ap₂ (λ xs ps. chosen xs ps (length xs)) columns open_there in
     IfOk-weaker c.choose.result _ _ (λ places h. subst (λ ps. length ps ≤ 16384) (sym (h ∙ list)) (few_classes t is)) c.choose.ensures

@@ -1,4 +1,4 @@
-use Rattle.std.proofs.Common.{◌≡◌, ℕ, List, [], ◌∷◌, ◌∙◌, if◌then◌else◌, sym, ap, refl, append-nil}
+use Rattle.std.proofs.Common.{◌≡◌, ℕ, [], ◌∷◌, ◌∙◌, if◌then◌else◌, sym, ap, refl, append-nil}
 use Rattle.std.proofs.lemmas.Bool.{ne_eqb, eq-eqb}
 use Rattle.cpog_defs.specs.declared.types.Place.{Place}
 use Rattle.cpog_defs.specs.declared.types.Place.TheVariants.{Arc}
@@ -17,7 +17,7 @@ loop-v-preserved c =
     elim c.if-u-v.branch [
       | then-u-v+in_ok-push_if_open w ↦
           let there : (if is_open w.arc.result then p ∷ [] else []) ≡ arc_list t u v =
-              rw (ne_eqb u v w.if-u-v.true) (ap (λ column. if is_open column then p ∷ [] else []) w.arc.ensures) in
+          rw (ne_eqb u v w.if-u-v.true) (ap (λ column. if is_open column then p ∷ [] else []) w.arc.ensures) in
           each_more (arc_list t u) v _ c.loop-v.places.items _ _ c.loop-v.invariant there (ap (λ places. places.items) w.places-is ∙ w.in_ok-push_if_open.ensures)
       | else-u-v w ↦
           let none : [] ≡ arc_list t u v = rw (eq-eqb u v w.if-u-v.false) refl in

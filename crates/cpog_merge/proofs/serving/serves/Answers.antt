@@ -12,7 +12,8 @@ returns-then-serves c =
 
 pub returns-else-serves : goal.returns-else-serves
 returns-else-serves c =
-    same_from_decides {P = IsServedBy c.args.to.now c.args.by.now} c.opposes.result (serves c.args.by.now c.args.to.now)
-    (λ t. inr (c.opposes.ensures.0 t),
-     λ h. elim h [ inl s ↦ absurd (both_ways _ c.if-serves.false (c.serves.ensures.1 s)) | inr o ↦ c.opposes.ensures.1 o ])
+    same_from_decides {P = IsServedBy c.args.to.now c.args.by.now} c.opposes.result (serves c.args.by.now c.args.to.now) (
+      λ t. inr (c.opposes.ensures.0 t),
+      λ h. elim h [ inl s ↦ absurd (both_ways _ c.if-serves.false (c.serves.ensures.1 s)) | inr o ↦ c.opposes.ensures.1 o ],
+    )
     (served_decides c.args.by.now c.args.to.now)
