@@ -1,8 +1,8 @@
 -- The classes of columns. Where one column serves another, each condition that meets the one meets the other too, as it
 -- stands or complemented, so the other needs none of its own. Places stand in column order: operations by their numbers,
 -- then pairs by their first and then by their second. A place is open where its column asks for a 1 somewhere and for a
--- 0 elsewhere; any other takes a constant. Of open places that serve each other the first is a class, and a place that
--- is served by one that it does not serve back is none. So each open place is served by a class.
+-- 0 elsewhere; any other takes a constant. Of open places that serve each other only the first can be a class, and a
+-- place that is served by one that it does not serve back is none. Each open place is served by some class.
 use Rattle.std.specs.Prelude.{◌≡◌, ℕ, ◌+◌, ◌*◌, ◌<◌, ◌≤◌, ◌⊎◌, Bool, true, false, IsTrue, List, [], length, map, slice_index_or}
 use Rattle.std.specs.List.{list_any, All, AllPairs, Contains}
 use Rattle.cpog_base.specs.Column.{is_one, is_zero, Serves, Opposes}
