@@ -1,0 +1,4 @@
+pub mod Runs
+pub mod TokenLaws
+pub mod PhraseLaws
+pub mod RowSteps

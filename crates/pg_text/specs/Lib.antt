@@ -1,0 +1,5 @@
+pub mod Lines
+pub mod Tokens
+pub mod Faults
+pub mod Grammar
+pub mod Reading
