@@ -104,25 +104,25 @@ stops_at_joint s sum bytes rest h = others_lack (sign (joint s sum)) (sign (join
 clash : (t u : Token) (bytes : List ℕ) (ts us : List Token) (q r : List ℕ) → (t ≡ u → ⊥) → BeginsWithAll bytes (t ∷ ts) q → BeginsWithAll bytes (u ∷ us) r → ⊥
 clash t u bytes ts us q r differ h k = differ (same_token bytes t u h.0 k.0 h.1 k.1).0
 
-name_no_sign : (w : List ℕ) (s : Sign) → name w ≡ sign s → ⊥
+pub name_no_sign : (w : List ℕ) (s : Sign) → name w ≡ sign s → ⊥
 name_no_sign w s e = cc
-bit_no_name : (b : Bool) (w : List ℕ) → bit_word b ≡ name w → ⊥
+pub bit_no_name : (b : Bool) (w : List ℕ) → bit_word b ≡ name w → ⊥
 bit_no_name true w e = cc
 bit_no_name false w e = cc
-bit_no_sign : (b : Bool) (s : Sign) → bit_word b ≡ sign s → ⊥
+pub bit_no_sign : (b : Bool) (s : Sign) → bit_word b ≡ sign s → ⊥
 bit_no_sign true s e = cc
 bit_no_sign false s e = cc
-empty_no_name : (w : List ℕ) → word words.Empty ≡ name w → ⊥
+pub empty_no_name : (w : List ℕ) → word words.Empty ≡ name w → ⊥
 empty_no_name w e = cc
-empty_no_sign : (s : Sign) → word words.Empty ≡ sign s → ⊥
+pub empty_no_sign : (s : Sign) → word words.Empty ≡ sign s → ⊥
 empty_no_sign s e = cc
-open_no_not : sign signs.Open ≡ sign signs.Not → ⊥
+pub open_no_not : sign signs.Open ≡ sign signs.Not → ⊥
 open_no_not e = cc
-open_no_at : sign signs.Open ≡ sign signs.At → ⊥
+pub open_no_at : sign signs.Open ≡ sign signs.At → ⊥
 open_no_at e = cc
-open_no_square : sign signs.Open ≡ sign signs.OpenSquare → ⊥
+pub open_no_square : sign signs.Open ≡ sign signs.OpenSquare → ⊥
 open_no_square e = cc
-at_no_square : sign signs.At ≡ sign signs.OpenSquare → ⊥
+pub at_no_square : sign signs.At ≡ sign signs.OpenSquare → ⊥
 at_no_square e = cc
 
 flip : (t u : Token) → (t ≡ u → ⊥) → u ≡ t → ⊥

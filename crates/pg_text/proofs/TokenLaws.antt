@@ -17,7 +17,7 @@ use Rattle.pg_text.specs.declared.sign.Sign.TheVariants as signs
 use Rattle.pg_text.specs.declared.sign.Fixed.{Fixed}
 use Rattle.pg_text.specs.declared.sign.Fixed.TheVariants as words
 use Rattle.line_text.specs.Words.{continues_name, is_free_name}
-use Rattle.pg_text.specs.Tokens.{Token, name, word, sign, sign_text, word_text, is_blank, IsRun, StartsWith, BeginsWith, IsComment, HasNoToken}
+use Rattle.pg_text.specs.Tokens.{Token, name, word, sign, bit_word, sign_text, word_text, is_blank, IsRun, StartsWith, BeginsWith, IsComment, HasNoToken}
 use Rattle.pg_text.proofs.Runs.{same_run}
 
 -- bytes of a word are ASCII
@@ -260,3 +260,8 @@ no_word bytes blanks after front left w run cut differs rest b =
 -- a word that a test finds to differ is another
 pub differs : (w x v : List ℕ) → pointwise eqb v v ≡ true → false ≡ pointwise eqb w x → x ≡ v → w ≡ v → ⊥
 differs w x v same test is e = both_ways (pointwise eqb w x) (sym test) (ap₂ (pointwise eqb) e is ∙ same)
+
+-- a bit is 0 or 1
+pub no_bit : (bytes : List ℕ) → ((rest : List ℕ) → BeginsWith bytes (word words.Zero) rest → ⊥) → ((rest : List ℕ) → BeginsWith bytes (word words.One) rest → ⊥) → (b : Bool) (rest : List ℕ) → BeginsWith bytes (bit_word b) rest → ⊥
+no_bit bytes zero_lacks one_lacks false rest h = zero_lacks rest h
+no_bit bytes zero_lacks one_lacks true rest h = one_lacks rest h

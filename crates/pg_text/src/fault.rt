@@ -4,7 +4,7 @@ ghost use Rattle.pg_text.specs.declared.fault.LineFault.TheVariants as lines;
 ghost use Rattle.pg_text.specs.declared.fault.FileFault.TheVariants as files;
 
 use cpog_base::{Counted, Memory};
-use std::alloc::AllocFailed;
+use std::alloc::{AllocError, AllocFailed};
 
 /// Why a line could not be read.
 #[derive(Clone, Copy, Debug, PartialEq, Eq)]
@@ -25,6 +25,14 @@ impl<T: Drop> From<AllocFailed<T>> for LineFault {
     ghost from_gives = { λ _ e. e ≡ lines.Memory };
 
     fn from(_error: AllocFailed<T>) -> LineFault {
+        LineFault::Memory
+    }
+}
+
+impl From<AllocError> for LineFault {
+    ghost from_gives = { λ _ e. e ≡ lines.Memory };
+
+    fn from(_error: AllocError) -> LineFault {
         LineFault::Memory
     }
 }

@@ -1,6 +1,7 @@
 //! The graph text.
 #![tactic(auto)]
 
+mod conditions;
 mod fault;
 mod lines;
 mod sign;

@@ -1,6 +1,6 @@
 //! A line is taken token by token from its front. Each function skips blanks, takes one token if it comes next, and
 //! gives what follows it, so that no list of tokens is built.
-ghost use Rattle.std.specs.Prelude.{◌≡◌, ◌+◌, ◌<◌, ◌≤◌, ◌++◌, List, ℕ, MatchOption, IfSome, length, true};
+ghost use Rattle.std.specs.Prelude.{◌≡◌, ◌+◌, ◌<◌, ◌≤◌, ◌++◌, List, ℕ, Bool, MatchOption, IfSome, length, true};
 ghost use Rattle.std.specs.Bool.{MatchBool};
 ghost use Rattle.std.specs.List.{prefix_len, list_all};
 ghost use Rattle.pg_text.specs.Tokens.{name, word as word_token, sign as sign_token, bit_word, sign_text, word_text, is_blank, IsRun, StartsWith, BeginsWith, IsComment, HasNoToken};
@@ -148,5 +148,19 @@ pub fn name_at(bytes: &[u8]) -> Option<(&str, &[u8])>
         Some((text_of(word), rest))
     } else {
         None
+    }
+}
+
+/// The bit that comes next, and what follows it.
+pub fn bit_at(bytes: &[u8]) -> Option<(bool, &[u8])>
+    ensures cases { MatchOption result ((b : Bool) (rest : List ℕ) → BeginsWith bytes.now (bit_word b) rest → ⊥) (λ p. BeginsWith bytes.now (bit_word p.0) p.1.now) }
+    ensures shorter { IfSome result (λ p. length p.1.now < length bytes.now) }
+{
+    if let Some(rest) = after_word(bytes, Fixed::Zero) {
+        return Some((false, rest));
+    }
+    match after_word(bytes, Fixed::One) {
+        Some(rest) => Some((true, rest)),
+        None => None,
     }
 }
