@@ -15,7 +15,7 @@ use Rattle.pg_text.specs.Reading.{Lacks, Stops, IsAtFront, Reads, ReadsNone}
 use Rattle.pg_text.proofs.TokenLaws.{same_token}
 use Rattle.pg_text.proofs.PhraseLaws.{both_begin, parts_begin, after_token, same_phrase, stops_at_close, name_no_sign, bit_no_sign, empty_no_sign, open_no_not, open_no_at, open_no_square}
 
-no_first : (t u : Token) (bytes after next : List ℕ) → (t ≡ u → ⊥) → BeginsWith bytes t next → BeginsWith bytes u after → ⊥
+pub no_first : (t u : Token) (bytes after next : List ℕ) → (t ≡ u → ⊥) → BeginsWith bytes t next → BeginsWith bytes u after → ⊥
 no_first t u bytes after next differ h k = differ (same_token bytes t u next after h k).0
 
 -- ---- a factor in parentheses

@@ -3,3 +3,5 @@ pub mod TokenLaws
 pub mod PhraseLaws
 pub mod RowSteps
 pub mod FactorSteps
+pub mod GraphSteps
+pub mod NameLemmas

@@ -2,6 +2,7 @@
 #![tactic(auto)]
 
 mod conditions;
+mod expressions;
 mod fault;
 mod lines;
 mod sign;
