@@ -5,3 +5,6 @@ pub mod RowSteps
 pub mod FactorSteps
 pub mod GraphSteps
 pub mod NameLemmas
+pub mod CommaSteps
+pub mod SentenceLaws
+pub mod LineSteps

@@ -3,3 +3,5 @@ pub mod Tokens
 pub mod Faults
 pub mod Grammar
 pub mod Reading
+pub mod Sentences
+pub mod ReadingLines

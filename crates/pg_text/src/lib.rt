@@ -6,6 +6,8 @@ mod expressions;
 mod fault;
 mod lines;
 mod sign;
+mod statement;
+mod statements;
 mod tokens;
 
 pub use fault::FileFault;
