@@ -8,3 +8,6 @@ pub mod NameLemmas
 pub mod CommaSteps
 pub mod SentenceLaws
 pub mod LineSteps
+pub mod TextLaws
+pub mod TextSteps
+pub mod FileLaws

@@ -5,3 +5,6 @@ pub mod Grammar
 pub mod Reading
 pub mod Sentences
 pub mod ReadingLines
+pub mod Contents
+pub mod Stored
+pub mod Text
