@@ -6,6 +6,7 @@ mod conditions;
 mod expressions;
 mod fault;
 mod file;
+mod laws;
 mod lines;
 mod reading;
 mod sign;
@@ -15,5 +16,6 @@ mod tokens;
 
 pub use fault::FileFault;
 pub use file::File;
+pub use laws::{file_has_no_fault, one_fault, one_file};
 pub use reading::read_file;
 pub use statement::{Bindings, NameList, Numbered, Statement};
