@@ -11,3 +11,4 @@ pub mod LineSteps
 pub mod TextLaws
 pub mod TextSteps
 pub mod FileLaws
+pub mod RowTexts

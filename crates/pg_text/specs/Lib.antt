@@ -8,3 +8,4 @@ pub mod ReadingLines
 pub mod Contents
 pub mod Stored
 pub mod Text
+pub mod Writing

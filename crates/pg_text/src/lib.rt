@@ -8,11 +8,13 @@ mod fault;
 mod file;
 mod laws;
 mod lines;
+mod place;
 mod reading;
 mod sign;
 mod statement;
 mod statements;
 mod tokens;
+mod writing;
 
 pub use fault::FileFault;
 pub use file::File;

@@ -1,0 +1,112 @@
+//! A file is written as one line for each statement, with single blanks and no parentheses but those that are needed.
+ghost use Rattle.std.specs.Prelude.{◌≡◌, ◌++◌, [], codes, IfOk, OnOk};
+ghost use Rattle.std.proofs.Common.{get_or};
+ghost use Rattle.pg_text.specs.Writing.{bit_text, cond_text, expr_text, with_text, statement_text, file_text, row_text, bind_text, when_needed};
+
+use crate::place::Place;
+use cpog_base::{Memory, Names};
+use pg_algebra::{Cond, Expr};
+
+/// Puts the bytes last.
+fn put(out: &mut Vec<u8>, text: &[u8]) -> Result<(), Memory>
+    ensures { OnOk result (out.new.items ≡ out.old.items ++ text.now) }
+{
+    out.extend_from_slice(text)?;
+    Ok(())
+}
+
+/// A bit as text.
+fn text_of_bit(bit: bool) -> &'static [u8]
+    ensures { result.now ≡ bit_text bit }
+{
+    if bit { b"1" } else { b"0" }
+}
+
+/// The name of an operation, and nothing for a number without a name.
+fn name_of(names: &Names, operation: u32) -> &str
+    ensures { result.now ≡ get_or names.now operation [] }
+{
+    if operation < names.len() {
+        names.get(operation)
+    } else {
+        ""
+    }
+}
+
+/// Puts the bytes last where they are needed.
+fn put_if(out: &mut Vec<u8>, is_needed: bool, text: &[u8]) -> Result<(), Memory>
+    ensures { OnOk result (out.new.items ≡ out.old.items ++ when_needed is_needed text.now) }
+{
+    if is_needed { put(out, text) } else { Ok(()) }
+}
+
+/// Puts the condition last.
+fn put_condition(out: &mut Vec<u8>, condition: &Cond, place: Place) -> Result<(), Memory>
+    ensures { OnOk result (out.new.items ≡ out.old.items ++ cond_text place condition.now) }
+{
+    match condition {
+        Cond::Bit(bit) => put(out, text_of_bit(*bit)),
+        Cond::Param(name) => put(out, name.as_str().as_bytes()),
+        Cond::Not(negated) => {
+            put(out, b"!")?;
+            put_condition(out, negated.get(), Place::Factor)
+        }
+        Cond::And(list) => {
+            put_if(out, place.encloses_product(), b"(")?;
+            'factors: for (i, member) in list.members().iter().enumerate() {
+                put_if(out, i > 0, b" & ")?;
+                put_condition(out, member, Place::Factor)?;
+            }
+            put_if(out, place.encloses_product(), b")")
+        }
+        Cond::Or(list) => {
+            put_if(out, place.encloses_sum(), b"(")?;
+            'terms: for (i, member) in list.members().iter().enumerate() {
+                put_if(out, i > 0, b" | ")?;
+                put_condition(out, member, Place::Product)?;
+            }
+            put_if(out, place.encloses_sum(), b")")
+        }
+    }
+}
+
+/// Puts the expression last, its operations by their names.
+fn put_expression(
+    out: &mut Vec<u8>,
+    names: &Names,
+    expr: &Expr,
+    place: Place,
+) -> Result<(), Memory>
+    ensures { OnOk result (out.new.items ≡ out.old.items ++ expr_text names.now place expr.now) }
+{
+    match expr {
+        Expr::Empty => put(out, b"empty"),
+        Expr::Op(operation) => put(out, name_of(names, *operation).as_bytes()),
+        Expr::Graph(name) => {
+            put(out, b"@")?;
+            put(out, name.as_str().as_bytes())
+        }
+        Expr::When(condition, governed) => {
+            put(out, b"[")?;
+            put_condition(out, condition.get(), Place::Sum)?;
+            put(out, b"] ")?;
+            put_expression(out, names, governed.get(), Place::Factor)
+        }
+        Expr::Overlay(list) => {
+            put_if(out, place.encloses_sum(), b"(")?;
+            'terms: for (i, member) in list.members().iter().enumerate() {
+                put_if(out, i > 0, b" + ")?;
+                put_expression(out, names, member, Place::Product)?;
+            }
+            put_if(out, place.encloses_sum(), b")")
+        }
+        Expr::Sequence(list) => {
+            put_if(out, place.encloses_product(), b"(")?;
+            'factors: for (i, member) in list.members().iter().enumerate() {
+                put_if(out, i > 0, b" -> ")?;
+                put_expression(out, names, member, Place::Factor)?;
+            }
+            put_if(out, place.encloses_product(), b")")
+        }
+    }
+}
