@@ -100,3 +100,12 @@ put_all f sign xs i old start out a b n left right opens puts all e h =
 
 pub on_ok : {A E : Type 0} (r : Result A E) (a b c : List ℕ) → b ≡ c → OnOk r (a ≡ b) → OnOk r (a ≡ c)
 on_ok r a b c e h = subst (λ x. OnOk r (a ≡ x)) e h
+
+pub two_parts : (old a b o1 : List ℕ) → o1 ≡ old ++ a → o1 ++ b ≡ old ++ (a ++ b)
+two_parts old a b o1 h = ap (λ o. o ++ b) h ∙ append_assoc old a b
+
+pub three_parts : (old a b c o1 o2 : List ℕ) → o1 ≡ old ++ a → o2 ≡ o1 ++ b → o2 ++ c ≡ old ++ (a ++ (b ++ c))
+three_parts old a b c o1 o2 h k = two_parts o1 b c o2 k ∙ two_parts old a (b ++ c) o1 h
+
+pub four_parts : (old a b c d o1 o2 o3 : List ℕ) → o1 ≡ old ++ a → o2 ≡ o1 ++ b → o3 ≡ o2 ++ c → o3 ++ d ≡ old ++ (a ++ (b ++ (c ++ d)))
+four_parts old a b c d o1 o2 o3 h k l = two_parts o2 c d o3 l ∙ three_parts old a b (c ++ d) o1 o2 h k
