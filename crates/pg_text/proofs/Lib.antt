@@ -12,3 +12,4 @@ pub mod TextLaws
 pub mod TextSteps
 pub mod FileLaws
 pub mod RowTexts
+pub mod FileTexts

@@ -21,3 +21,4 @@ pub use file::File;
 pub use laws::{file_has_no_fault, one_fault, one_file};
 pub use reading::read_file;
 pub use statement::{Bindings, NameList, Numbered, Statement};
+pub use writing::write_file;

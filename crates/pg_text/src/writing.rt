@@ -1,11 +1,15 @@
 //! A file is written as one line for each statement, with single blanks and no parentheses but those that are needed.
-ghost use Rattle.std.specs.Prelude.{◌≡◌, ◌++◌, [], codes, IfOk, OnOk};
+ghost use Rattle.std.specs.Prelude.{◌≡◌, ◌++◌, [], codes, map, IfOk, OnOk};
 ghost use Rattle.std.proofs.Common.{get_or};
+ghost use Rattle.pg_text.specs.declared.place.Place.TheVariants as place;
 ghost use Rattle.pg_text.specs.Writing.{bit_text, cond_text, expr_text, with_text, statement_text, file_text, row_text, bind_text, when_needed};
 
+use crate::file::File;
 use crate::place::Place;
-use cpog_base::{Memory, Names};
+use crate::statement::Statement;
+use cpog_base::{Memory, Name, Names};
 use pg_algebra::{Cond, Expr};
+use std::alloc::Global;
 
 /// Puts the bytes last.
 fn put(out: &mut Vec<u8>, text: &[u8]) -> Result<(), Memory>
@@ -109,4 +113,93 @@ fn put_expression(
             put_if(out, place.encloses_product(), b")")
         }
     }
+}
+
+/// Puts the names last with commas between them.
+fn put_names(out: &mut Vec<u8>, names: &[Name]) -> Result<(), Memory>
+    ensures { OnOk result (out.new.items ≡ out.old.items ++ row_text (codes ", ") names.now) }
+{
+    'names: for (i, name) in names.iter().enumerate() {
+        put_if(out, i > 0, b", ")?;
+        put(out, name.as_str().as_bytes())?;
+    }
+    Ok(())
+}
+
+/// Puts a name, the sign of equality and a bit last.
+fn put_binding(out: &mut Vec<u8>, binding: &(Name, bool)) -> Result<(), Memory>
+    ensures { OnOk result (out.new.items ≡ out.old.items ++ bind_text binding.now) }
+{
+    let (name, bit) = binding;
+    put(out, name.as_str().as_bytes())?;
+    put(out, b" = ")?;
+    put(out, text_of_bit(*bit))
+}
+
+/// Puts the bindings last with commas between them.
+fn put_bindings(out: &mut Vec<u8>, bindings: &[(Name, bool)]) -> Result<(), Memory>
+    ensures { OnOk result (out.new.items ≡ out.old.items ++ row_text (codes ", ") (map bind_text bindings.now)) }
+{
+    'bindings: for (i, binding) in bindings.iter().enumerate() {
+        put_if(out, i > 0, b", ")?;
+        put_binding(out, binding)?;
+    }
+    Ok(())
+}
+
+/// Puts `with` and the bindings last, where there is one.
+fn put_with(out: &mut Vec<u8>, bindings: &[(Name, bool)]) -> Result<(), Memory>
+    ensures { OnOk result (out.new.items ≡ out.old.items ++ with_text bindings.now) }
+{
+    put_if(out, !bindings.is_empty(), b" with ")?;
+    put_bindings(out, bindings)
+}
+
+/// Puts a keyword, a name, the sign of equality and an expression last.
+fn put_definition(
+    out: &mut Vec<u8>,
+    names: &Names,
+    keyword: &[u8],
+    name: &Name,
+    expr: &Expr,
+) -> Result<(), Memory>
+    ensures { OnOk result (out.new.items ≡ out.old.items ++ (keyword.now ++ (name.now ++ (codes " = " ++ expr_text names.now place.Sum expr.now)))) }
+{
+    put(out, keyword)?;
+    put(out, name.as_str().as_bytes())?;
+    put(out, b" = ")?;
+    put_expression(out, names, expr, Place::Sum)
+}
+
+/// Puts the statement last.
+fn put_statement(out: &mut Vec<u8>, names: &Names, statement: &Statement) -> Result<(), Memory>
+    ensures { OnOk result (out.new.items ≡ out.old.items ++ statement_text names.now statement.now) }
+{
+    match statement {
+        Statement::Params { names } => {
+            put(out, b"params ")?;
+            put_names(out, names.as_slice())
+        }
+        Statement::Graph { name, expr } => put_definition(out, names, b"graph ", name, expr),
+        Statement::Scenario {
+            name,
+            expr,
+            bindings,
+        } => {
+            put_definition(out, names, b"scenario ", name, expr)?;
+            put_with(out, bindings.as_slice())
+        }
+    }
+}
+
+/// The text of a file: a line for each statement, with single blanks and no parentheses but those that are needed.
+pub fn write_file(alloc: Global, file: &File) -> Result<Vec<u8>, Memory>
+    ensures text { IfOk result (λ bytes. bytes.items ≡ file_text file.now) }
+{
+    let mut out = Vec::new(alloc);
+    'statements: for i in 0..file.len() {
+        put_statement(&mut out, file.operations(), file.statement(i))?;
+        put(&mut out, b"\n")?;
+    }
+    Ok(out)
 }
