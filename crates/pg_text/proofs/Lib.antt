@@ -13,3 +13,4 @@ pub mod TextSteps
 pub mod FileLaws
 pub mod RowTexts
 pub mod FileTexts
+pub mod PlainPhrases
