@@ -14,3 +14,4 @@ pub mod FileLaws
 pub mod RowTexts
 pub mod FileTexts
 pub mod PlainPhrases
+pub mod PlainTexts
