@@ -15,3 +15,4 @@ pub mod RowTexts
 pub mod FileTexts
 pub mod PlainPhrases
 pub mod PlainTexts
+pub mod Spelling
