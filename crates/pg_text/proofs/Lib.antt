@@ -16,3 +16,4 @@ pub mod FileTexts
 pub mod PlainPhrases
 pub mod PlainTexts
 pub mod Spelling
+pub mod SentenceTexts
