@@ -1,15 +1,16 @@
 -- The text of a file, line by line.
-use Rattle.std.specs.Prelude.{◌≡◌, ◌<◌, ◌+◌, refl, ℕ, List, [], ◌∷◌, ◌++◌, map, take, length, slice_get, Option, Some, None}
+use Rattle.std.specs.Prelude.{◌≡◌, ◌<◌, ◌≤◌, ◌+◌, refl, ℕ, List, [], ◌∷◌, ◌++◌, map, take, length, slice_get, Option, Some, None}
 use Rattle.std.proofs.Common.{ap, ap₂, sym, ◌∙◌, append_assoc, append-nil, get_or}
 use Rattle.std.specs.Option.{IsSomeAnd}
-use Rattle.std.proofs.lemmas.List.{take_more, map-append}
+use Rattle.std.proofs.lemmas.List.{take_more, take_all, map-append}
 use Rattle.std.proofs.lemmas.List.Concat.{flat_map-cons}
 use Rattle.std.proofs.lemmas.Grind.{flat_map-append}
 use Rattle.std.proofs.lemmas.Option.{slice_get_within, get_or_from_slice_get}
 use Rattle.line_text.specs.Lines.{text_of}
 use Rattle.pg_text.specs.declared.statement.Statement.{Statement}
 use Rattle.pg_text.specs.declared.statement.Numbered.{Numbered}
-use Rattle.pg_text.specs.Writing.{statement_text}
+use Rattle.pg_text.specs.Writing.{statement_text, file_text}
+use Rattle.pg_text.specs.Contents.{Contents}
 
 some_statement : (o : Option Numbered) (stmt : Statement) → IsSomeAnd o (λ s. stmt ≡ s.statement) → (s : Numbered) × (o ≡ Some s) × (stmt ≡ s.statement)
 some_statement None stmt h = absurd h
@@ -33,3 +34,7 @@ line_more names operations ss i stmt out middle next at same before puts feeds =
     ∙ sym (text_of_more (map (λ s. statement_text names s.statement) (take i ss)) (statement_text names s.0.statement))
     ∙ ap text_of (sym (map-append (λ s. statement_text names s.statement) (take i ss) (s.0 ∷ [])))
     ∙ ap (λ x. text_of (map (λ s. statement_text names s.statement) x)) (sym more)
+
+-- every line stands there
+pub all_lines : (f : Contents) (i : ℕ) (out : List ℕ) → out ≡ text_of (map (λ s. statement_text f.operations s.statement) (take i f.statements)) → length f.statements ≤ i → out ≡ file_text f
+all_lines f i out h le = h ∙ ap (λ l. text_of (map (λ s. statement_text f.operations s.statement) l)) (take_all i f.statements le)

@@ -17,3 +17,4 @@ pub mod PlainPhrases
 pub mod PlainTexts
 pub mod Spelling
 pub mod SentenceTexts
+pub mod WriteLaws

@@ -2,7 +2,8 @@
 ghost use Rattle.std.specs.Prelude.{◌≡◌, ◌++◌, [], codes, map, IfOk, OnOk};
 ghost use Rattle.std.proofs.Common.{get_or};
 ghost use Rattle.pg_text.specs.declared.place.Place.TheVariants as place;
-ghost use Rattle.pg_text.specs.Writing.{bit_text, cond_text, expr_text, with_text, statement_text, file_text, row_text, bind_text, when_needed};
+ghost use Rattle.pg_text.specs.Text.{IsFileOf};
+ghost use Rattle.pg_text.specs.Writing.{bit_text, cond_text, expr_text, with_text, statement_text, file_text, renumbered, row_text, bind_text, when_needed};
 
 use crate::file::File;
 use crate::place::Place;
@@ -195,6 +196,7 @@ fn put_statement(out: &mut Vec<u8>, names: &Names, statement: &Statement) -> Res
 /// The text of a file: a line for each statement, with single blanks and no parentheses but those that are needed.
 pub fn write_file(alloc: Global, file: &File) -> Result<Vec<u8>, Memory>
     ensures text { IfOk result (λ bytes. bytes.items ≡ file_text file.now) }
+    ensures read { IfOk result (λ bytes. IsFileOf bytes.items (renumbered file.now)) }
 {
     let mut out = Vec::new(alloc);
     'statements: for i in 0..file.len() {
