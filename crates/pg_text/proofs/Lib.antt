@@ -18,3 +18,4 @@ pub mod PlainTexts
 pub mod Spelling
 pub mod SentenceTexts
 pub mod WriteLaws
+pub mod NumberLaws

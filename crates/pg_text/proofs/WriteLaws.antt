@@ -68,7 +68,7 @@ names-lines names [] = refl
 names-lines names (None ∷ xs) = names-lines names xs
 names-lines names (Some x ∷ xs) = ap (λ n. names_after n (plain_lines xs)) (names-sentence names x) ∙ names-lines (names_after_sentence names x) xs
 
-extends-lines : (names : List (List ℕ)) (xs : List (Option Sentence)) → Extends names (names_after names xs)
+pub extends-lines : (names : List (List ℕ)) (xs : List (Option Sentence)) → Extends names (names_after names xs)
 extends-lines names [] = extends-self names
 extends-lines names (None ∷ xs) = extends-lines names xs
 extends-lines names (Some x ∷ xs) = extends-more names (names_after_sentence names x) (names_after (names_after_sentence names x) xs) (extends-sentence names x) (extends-lines (names_after_sentence names x) xs)

@@ -9,3 +9,4 @@ pub mod Contents
 pub mod Stored
 pub mod Text
 pub mod Writing
+pub mod Numbers

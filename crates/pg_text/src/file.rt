@@ -1,5 +1,7 @@
 ghost use Rattle.std.specs.Prelude.{◌≡◌, ◌<◌, length, slice_get};
+ghost use Rattle.std.specs.List.{AllByRecursion};
 ghost use Rattle.std.specs.Option.{IsSomeAnd};
+ghost use Rattle.pg_text.specs.Numbers.{statement_numbers};
 ghost use Rattle.pg_text.specs.Text.{IsFile};
 
 use crate::{Numbered, Statement};
@@ -54,7 +56,8 @@ impl File {
     /// A statement, by its place.
     pub fn statement(&self, i: u32) -> &Statement
         requires { i < length self.now.statements }
-        ensures { IsSomeAnd (slice_get self.now.statements i) (λ s. result.now ≡ s.statement) }
+        ensures statement { IsSomeAnd (slice_get self.now.statements i) (λ s. result.now ≡ s.statement) }
+        ensures numbers { AllByRecursion (λ n. n < length self.now.operations) (statement_numbers result.now) }
     {
         &self.statements.as_slice()[i as usize].statement
     }

@@ -4,6 +4,7 @@ ghost use Rattle.pg_text.specs.declared.fault.FileFault.{FileFault as Fault};
 ghost use Rattle.pg_text.specs.declared.fault.FileFault.TheVariants as fault;
 ghost use Rattle.pg_text.specs.Contents.{Contents};
 ghost use Rattle.pg_text.specs.Text.{IsFileOf, IsFileFault};
+ghost use Rattle.pg_text.specs.Numbers.{NumbersStandForNames};
 
 /// A text has one reading at most.
 pub fn one_file()
@@ -19,4 +20,9 @@ pub fn one_fault()
 /// A text that has a reading has no fault but want of memory.
 pub fn file_has_no_fault()
     ensures { (bytes : List ℕ) (file : Contents) (f : Fault) → IsFileOf bytes file → IsFileFault bytes f → f ≡ fault.Memory }
+{}
+
+/// The numbers in the trees of a file stand, one after another, for the operation names that are written in its text.
+pub fn numbers_stand_for_names()
+    ensures { NumbersStandForNames }
 {}
