@@ -66,7 +66,11 @@ is_guard room bytes after rest (under c x) h k =
     let m = after_token bytes (sign signs.OpenSquare) k.spelled.0 after (tokens c ++ sign signs.CloseSquare ∷ tokens x) rest k.spelled.1 h k.spelled.2 in
     let p = parts_begin (tokens c) (sign signs.CloseSquare ∷ tokens x) after rest m in
     record {
-      deep = k.within.0; guard = c; governed = x; middle = p.0; next = p.2.0;
+      deep = k.within.0;
+      guard = c;
+      governed = x;
+      middle = p.0;
+      next = p.2.0;
       front = record { spelled = p.1; within = k.within.1; stops = stops_at_square condition (row sum) p.0 p.2.0 p.2.1 };
       close = p.2.1;
       last = record { spelled = p.2.2; within = k.within.2; stops = tt };

@@ -46,20 +46,28 @@ stops_before s (row sum) bytes rest t differ h = (others_lack t (sign (joint s p
 
 close_no_and : sign signs.Close ≡ sign signs.And → ⊥
 close_no_and e = cc
+
 close_no_or : sign signs.Close ≡ sign signs.Or → ⊥
 close_no_or e = cc
+
 close_no_arrow : sign signs.Close ≡ sign signs.Arrow → ⊥
 close_no_arrow e = cc
+
 close_no_plus : sign signs.Close ≡ sign signs.Plus → ⊥
 close_no_plus e = cc
+
 square_no_and : sign signs.CloseSquare ≡ sign signs.And → ⊥
 square_no_and e = cc
+
 square_no_or : sign signs.CloseSquare ≡ sign signs.Or → ⊥
 square_no_or e = cc
+
 square_no_arrow : sign signs.CloseSquare ≡ sign signs.Arrow → ⊥
 square_no_arrow e = cc
+
 square_no_plus : sign signs.CloseSquare ≡ sign signs.Plus → ⊥
 square_no_plus e = cc
+
 with_no_sign : (s : Sign) → word words.With ≡ sign s → ⊥
 with_no_sign s e = cc
 
@@ -106,22 +114,30 @@ clash t u bytes ts us q r differ h k = differ (same_token bytes t u h.0 k.0 h.1 
 
 pub name_no_sign : (w : List ℕ) (s : Sign) → name w ≡ sign s → ⊥
 name_no_sign w s e = cc
+
 pub bit_no_name : (b : Bool) (w : List ℕ) → bit_word b ≡ name w → ⊥
 bit_no_name true w e = cc
 bit_no_name false w e = cc
+
 pub bit_no_sign : (b : Bool) (s : Sign) → bit_word b ≡ sign s → ⊥
 bit_no_sign true s e = cc
 bit_no_sign false s e = cc
+
 pub empty_no_name : (w : List ℕ) → word words.Empty ≡ name w → ⊥
 empty_no_name w e = cc
+
 pub empty_no_sign : (s : Sign) → word words.Empty ≡ sign s → ⊥
 empty_no_sign s e = cc
+
 pub open_no_not : sign signs.Open ≡ sign signs.Not → ⊥
 open_no_not e = cc
+
 pub open_no_at : sign signs.Open ≡ sign signs.At → ⊥
 open_no_at e = cc
+
 pub open_no_square : sign signs.Open ≡ sign signs.OpenSquare → ⊥
 open_no_square e = cc
+
 pub at_no_square : sign signs.At ≡ sign signs.OpenSquare → ⊥
 at_no_square e = cc
 

@@ -129,8 +129,8 @@ mutual
   written-plain final names l (joined {s} r x y) h =
       written-row l r (joined r (fit (member r) (natural x)) (rows y))
       ∙ ap (placed (place_of l) r) (
-        ap₂ (λ a b. a ++ (joint_text s r ++ b)) (written-plain final names (member r) x (extends-more (names_after names x) (names_after (names_after names x) y) final (extends-names (names_after names x) y) h)) (written-rows final (names_after names x) r y h)
-        ∙ ap (λ b. tree_text s final (place_of (member r)) (tree names x) ++ b) (sym (rest-row r (names_after names x) (tree_text s final (place_of (member r))) (joint_text s r) y))
+      ap₂ (λ a b. a ++ (joint_text s r ++ b)) (written-plain final names (member r) x (extends-more (names_after names x) (names_after (names_after names x) y) final (extends-names (names_after names x) y) h)) (written-rows final (names_after names x) r y h)
+      ∙ ap (λ b. tree_text s final (place_of (member r)) (tree names x) ++ b) (sym (rest-row r (names_after names x) (tree_text s final (place_of (member r))) (joint_text s r) y))
       )
       ∙ sym (text-joined r (names_after names x) final (place_of l) (tree names x) y)
   written-plain final names l (named {s = condition} w) h = written-factor l (named w)

@@ -84,8 +84,8 @@ pub put_more : {X : Type 0} (f : X → List ℕ) (sign : List ℕ) (xs : List X)
 put_more f sign xs i x d start out middle next lt is before between last =
     let count : length (map f (take i xs)) ≡ i = length-map (take i xs) f ∙ length-take-le i xs (omega arith) in
     let more : row_text sign (map f (take (i + 1) xs)) ≡ row_text sign (map f (take i xs)) ++ (when_needed (nat_lt 0 i) sign ++ f x) =
-        ap (λ l. row_text sign (map f l)) (take_more xs i d lt ∙ ap (λ y. take i xs ++ y ∷ []) (sym is)) ∙ ap (row_text sign) (map-append f (take i xs) (x ∷ [])) ∙ row_more sign (f x) (map f (take i xs))
-        ∙ ap (λ n. row_text sign (map f (take i xs)) ++ (when_needed (nat_lt 0 n) sign ++ f x)) count
+    ap (λ l. row_text sign (map f l)) (take_more xs i d lt ∙ ap (λ y. take i xs ++ y ∷ []) (sym is)) ∙ ap (row_text sign) (map-append f (take i xs) (x ∷ [])) ∙ row_more sign (f x) (map f (take i xs))
+    ∙ ap (λ n. row_text sign (map f (take i xs)) ++ (when_needed (nat_lt 0 n) sign ++ f x)) count
     in
     last ∙ ap (λ m. m ++ f x) (between ∙ ap (λ o. o ++ when_needed (nat_lt 0 i) sign) before) ∙ append_assoc (start ++ row_text sign (map f (take i xs))) (when_needed (nat_lt 0 i) sign) (f x)
     ∙ append_assoc start (row_text sign (map f (take i xs))) (when_needed (nat_lt 0 i) sign ++ f x) ∙ ap (λ t. start ++ t) (sym more)

@@ -130,8 +130,10 @@ same_word x w line after h k = let b = begins x line h in word_of (first_word x)
 
 pub params_no_graph : words.Params ≡ words.Graph → ⊥
 params_no_graph e = cc
+
 pub params_no_scenario : words.Params ≡ words.Scenario → ⊥
 params_no_scenario e = cc
+
 pub graph_no_scenario : words.Graph ≡ words.Scenario → ⊥
 graph_no_scenario e = cc
 

@@ -83,8 +83,7 @@ free-binding (w, b) bytes rest h = h.1.token.0
 each-binding : (x : List ℕ × Bool) (rest : List ℕ) → IsFreeBinding x → EndsWord rest → BeginsWithAll (bind_text x ++ rest) (bind_tokens x) rest
 each-binding (w, b) rest h ends =
     let next = bit_text b ++ rest in
-    subst (λ t. BeginsWithAll t (bind_tokens (w, b)) rest) (sym (append_assoc w (codes " = " ++ bit_text b) rest))
-    (
+    subst (λ t. BeginsWithAll t (bind_tokens (w, b)) rest) (sym (append_assoc w (codes " = " ++ bit_text b) rest)) (
       32 ∷ (61 ∷ (32 ∷ next)),
       spell (name w) (32 ∷ (61 ∷ (32 ∷ next))) (h, refl),
       (
@@ -126,8 +125,7 @@ with-in_line (b ∷ bs) h = all-append in_line (codes " with ") (row_text (codes
 spell-tail : (w : List ℕ) (q : Phrase graph (row sum)) (t : List ℕ) (ts : List Token) → IsFree w → HasNames q → EndsWord t → BeginsWithAll t ts [] → BeginsWithAll (32 ∷ (w ++ (codes " = " ++ (written q ++ t)))) (left_tokens w ++ (tokens q ++ ts)) []
 spell-tail w q t ts free names ends more =
     let next = written q ++ t in
-    let some = some_token q in
-    (
+    let some = some_token q in (
       32 ∷ (61 ∷ (32 ∷ next)),
       behind_blank (w ++ (32 ∷ (61 ∷ (32 ∷ next)))) (name w) (32 ∷ (61 ∷ (32 ∷ next))) (spell (name w) (32 ∷ (61 ∷ (32 ∷ next))) (free, refl)),
       (
@@ -179,17 +177,15 @@ graph_text w q free names within =
     let next = w ++ (codes " = " ++ written q) in
     let whole : next ≡ w ++ (codes " = " ++ (written q ++ [])) = ap (λ t. w ++ (codes " = " ++ t)) (sym (append-nil (written q))) in
     let spelled : BeginsWithAll (32 ∷ next) (left_tokens w ++ tokens q) [] =
-        subst (λ ts. BeginsWithAll (32 ∷ next) (left_tokens w ++ ts) []) (append-nil (tokens q)) (subst (λ b. BeginsWithAll (32 ∷ b) (left_tokens w ++ (tokens q ++ [])) []) (sym whole) (spell-tail w q [] [] free names tt refl))
-    in
-    (
+    subst (λ ts. BeginsWithAll (32 ∷ next) (left_tokens w ++ ts) []) (append-nil (tokens q)) (subst (λ b. BeginsWithAll (32 ∷ b) (left_tokens w ++ (tokens q ++ [])) []) (sym whole) (spell-tail w q [] [] free names tt refl))
+    in (
       (([], (32 ∷ next, spell (word words.Graph) (32 ∷ next) refl, spelled), no_token_left), within),
       all-append in_line (codes "graph ") next refl (subst (λ b. list_all in_line b ≡ true) (sym whole) (tail-in_line w q [] free names refl)),
     )
 
 scenario_text : (w : List ℕ) (q : Phrase graph (row sum)) (bs : List (List ℕ × Bool)) → IsFree w → HasNames q → IsWithin 100 q → AreFree bs → IsTextOf (scenario_line w q bs) (codes "scenario " ++ (w ++ (codes " = " ++ (written q ++ with_text bs))))
 scenario_text w q bs free names within bound =
-    let next = w ++ (codes " = " ++ (written q ++ with_text bs)) in
-    (
+    let next = w ++ (codes " = " ++ (written q ++ with_text bs)) in (
       (([], (32 ∷ next, spell (word words.Scenario) (32 ∷ next) refl, spell-tail w q (with_text bs) (with_tokens bs) free names (with-ends bs) (spell-with bs bound)), no_token_left), within),
       all-append in_line (codes "scenario ") next refl (tail-in_line w q (with_text bs) free names (with-in_line bs bound)),
     )
@@ -198,8 +194,7 @@ params_text : (w : List ℕ) (ws : List (List ℕ)) → AllByRecursion IsFree (w
 params_text w ws free =
     let next = row_text (codes ", ") (map (λ v. v) (w ∷ ws)) in
     let same : next ≡ row_text (codes ", ") (w ∷ ws) = ap (row_text (codes ", ")) (map-same (w ∷ ws)) in
-    subst (λ t. IsTextOf (params_line w ws) (codes "params " ++ t)) same
-    (
+    subst (λ t. IsTextOf (params_line w ws) (codes "params " ++ t)) same (
       (([], (32 ∷ next, spell (word words.Params) (32 ∷ next) refl, behind_blank-commas name_tokens (λ v. v) IsFree each-name some-name w ws free), no_token_left), tt),
       all-append in_line (codes "params ") next refl (row-in_line (λ v. v) IsFree name-in_line (w ∷ ws) free),
     )

@@ -142,20 +142,19 @@ spell-phrase (single r x) rest h ends = spell-phrase x rest h ends
 spell-phrase (joined {s} r x y) rest h ends =
     let some = some_token y in
     let parts : (written x ++ (joint_text s r ++ written y)) ++ rest ≡ written x ++ (joint_text s r ++ (written y ++ rest)) =
-        append_assoc (written x) (joint_text s r ++ written y) rest ∙ ap (λ b. written x ++ b) (append_assoc (joint_text s r) (written y) rest)
+    append_assoc (written x) (joint_text s r ++ written y) rest ∙ ap (λ b. written x ++ b) (append_assoc (joint_text s r) (written y) rest)
     in
     subst (λ b. BeginsWithAll b (tokens x ++ sign (joint s r) ∷ tokens y) rest) (sym parts)
     (both_begin (tokens x) (sign (joint s r) ∷ tokens y) (written x ++ (joint_text s r ++ (written y ++ rest))) (joint_text s r ++ (written y ++ rest)) rest
-        (spell-phrase x (joint_text s r ++ (written y ++ rest)) h.0 (joint-ends s r (written y ++ rest)))
-        (32 ∷ (written y ++ rest), spell-joint s r (written y ++ rest), all_behind_blank (written y ++ rest) (tokens y) some.0 some.1 rest some.2 (spell-phrase y rest h.1 ends)))
+    (spell-phrase x (joint_text s r ++ (written y ++ rest)) h.0 (joint-ends s r (written y ++ rest)))
+    (32 ∷ (written y ++ rest), spell-joint s r (written y ++ rest), all_behind_blank (written y ++ rest) (tokens y) some.0 some.1 rest some.2 (spell-phrase y rest h.1 ends)))
 spell-phrase (named w) rest h ends = (rest, spell (name w) rest (h, ends), refl)
 spell-phrase (group x) rest h ends =
-    let parts : (written x ++ codes ")") ++ rest ≡ written x ++ (41 ∷ rest) = append_assoc (written x) (codes ")") rest in
-    (
+    let parts : (written x ++ codes ")") ++ rest ≡ written x ++ (41 ∷ rest) = append_assoc (written x) (codes ")") rest in (
       (written x ++ codes ")") ++ rest,
       spell (sign signs.Open) ((written x ++ codes ")") ++ rest) tt,
       subst (λ b. BeginsWithAll b (tokens x ++ sign signs.Close ∷ []) rest) (sym parts)
-      (both_begin (tokens x) (sign signs.Close ∷ []) (written x ++ (41 ∷ rest)) (41 ∷ rest) rest (spell-phrase x (41 ∷ rest) h refl) (rest, spell (sign signs.Close) rest tt, refl)),
+          (both_begin (tokens x) (sign signs.Close ∷ []) (written x ++ (41 ∷ rest)) (41 ∷ rest) rest (spell-phrase x (41 ∷ rest) h refl) (rest, spell (sign signs.Close) rest tt, refl)),
     )
 spell-phrase (bit b) rest h ends = (rest, spell-bit b rest ends, refl)
 spell-phrase (negated x) rest h ends = (written x ++ rest, spell (sign signs.Not) (written x ++ rest) tt, spell-phrase x rest h ends)
@@ -163,12 +162,11 @@ spell-phrase empty rest h ends = (rest, spell (word words.Empty) rest ends, refl
 spell-phrase (reference w) rest h ends = (w ++ rest, spell (sign signs.At) (w ++ rest) tt, (rest, spell (name w) rest (h, ends), refl))
 spell-phrase (under c x) rest h ends =
     let some = some_token x in
-    let parts : (written c ++ (codes "] " ++ written x)) ++ rest ≡ written c ++ (93 ∷ (32 ∷ (written x ++ rest))) = append_assoc (written c) (codes "] " ++ written x) rest in
-    (
+    let parts : (written c ++ (codes "] " ++ written x)) ++ rest ≡ written c ++ (93 ∷ (32 ∷ (written x ++ rest))) = append_assoc (written c) (codes "] " ++ written x) rest in (
       (written c ++ (codes "] " ++ written x)) ++ rest,
       spell (sign signs.OpenSquare) ((written c ++ (codes "] " ++ written x)) ++ rest) tt,
       subst (λ b. BeginsWithAll b (tokens c ++ sign signs.CloseSquare ∷ tokens x) rest) (sym parts)
-      (both_begin (tokens c) (sign signs.CloseSquare ∷ tokens x) (written c ++ (93 ∷ (32 ∷ (written x ++ rest)))) (93 ∷ (32 ∷ (written x ++ rest))) rest
+          (both_begin (tokens c) (sign signs.CloseSquare ∷ tokens x) (written c ++ (93 ∷ (32 ∷ (written x ++ rest)))) (93 ∷ (32 ∷ (written x ++ rest))) rest
           (spell-phrase c (93 ∷ (32 ∷ (written x ++ rest))) h.0 refl)
           (32 ∷ (written x ++ rest), spell (sign signs.CloseSquare) (32 ∷ (written x ++ rest)) tt, all_behind_blank (written x ++ rest) (tokens x) some.0 some.1 rest some.2 (spell-phrase x rest h.1 ends))),
     )

@@ -77,10 +77,13 @@ few_or_many count limit bytes a b h k few many = let same = ap count (one_readin
 
 abbrev params : Contents → ℕ
 params f = count_of counted.Params f.statements
+
 abbrev graphs : Contents → ℕ
 graphs f = count_of counted.Graphs f.statements
+
 abbrev scenarios : Contents → ℕ
 scenarios f = count_of counted.Scenarios f.statements
+
 abbrev operations : Contents → ℕ
 operations f = length f.operations
 

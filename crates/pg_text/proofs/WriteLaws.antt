@@ -113,7 +113,7 @@ text_reads bytes f h =
     let ext : Extends (names_after [] h.sentences) f.operations = subst (Extends (names_after [] h.sentences)) (sym h.operations) (extends-self (names_after [] h.sentences)) in
     let lines = texts f.operations (statements_from 1 [] h.sentences) in
     let same : graph_lines (file_text f) ≡ lines =
-        ap (λ s. graph_lines (text_of (texts f.operations s))) h.statements ∙ lines_stand lines (lines-in_line 1 [] f.operations h.sentences (graph_lines bytes) h.spelled ext)
+    ap (λ s. graph_lines (text_of (texts f.operations s))) h.statements ∙ lines_stand lines (lines-in_line 1 [] f.operations h.sentences (graph_lines bytes) h.spelled ext)
     in
     record {
       sentences = plain_lines h.sentences;

@@ -41,7 +41,6 @@ sentence_tokens (params_line w ws) = word words.Params ∷ commas name_tokens w 
 sentence_tokens (graph_line w x) = word words.Graph ∷ (left_tokens w ++ tokens x)
 sentence_tokens (scenario_line w x bs) = word words.Scenario ∷ (left_tokens w ++ (tokens x ++ with_tokens bs))
 
-
 -- ---- nesting: no token is deeper than 100 levels
 
 abbrev pub IsShallow : Sentence → Type 0

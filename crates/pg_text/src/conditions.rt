@@ -86,11 +86,7 @@ fn group_at<'a>(
 
 /// The operand at the front, and what follows it.
 #[cycle(condition)]
-fn operand_at<'a>(
-    alloc: Global,
-    bytes: &'a [u8],
-    room: u32,
-) -> Result<(Cond, &'a [u8]), LineFault>
+fn operand_at<'a>(alloc: Global, bytes: &'a [u8], room: u32) -> Result<(Cond, &'a [u8]), LineFault>
     ensures found { IfOk result (λ p. Reads condition factor room [] bytes.now p.0 [] p.1.now) }
     ensures shorter { IfOk result (λ p. length p.1.now < length bytes.now) }
     ensures err { IfErr result (IsDue (ReadsNone condition factor room bytes.now)) }

@@ -1,7 +1,6 @@
 //! The graph text.
 #![tactic(auto)]
 
-
 mod conditions;
 mod expressions;
 mod fault;
@@ -13,6 +12,8 @@ mod reading;
 mod sign;
 mod statement;
 mod statements;
+#[cfg(test)]
+mod tests;
 mod tokens;
 mod writing;
 

@@ -71,9 +71,14 @@ impl Bindings {
 #[derive(Drop)]
 pub enum Statement {
     /// Parameters: their names.
-    Params { names: NameList },
+    Params {
+        names: NameList,
+    },
     /// A graph that later lines may refer to: its name, and what it is.
-    Graph { name: Name, expr: Expr },
+    Graph {
+        name: Name,
+        expr: Expr,
+    },
     /// A scenario: its name, the graph of its operations, and the bits of parameters that it fixes.
     Scenario {
         name: Name,

@@ -82,10 +82,7 @@ fn bindings_at<'a>(
 }
 
 /// The bindings behind `with`, or none where that does not come next, and what follows.
-fn with_at<'a>(
-    alloc: Global,
-    bytes: &'a [u8],
-) -> Result<(Vec<(Name, bool)>, &'a [u8]), LineFault>
+fn with_at<'a>(alloc: Global, bytes: &'a [u8]) -> Result<(Vec<(Name, bool)>, &'a [u8]), LineFault>
     ensures found { IfOk result (λ p. ReadsWith bytes.now p.0.items p.1.now) }
     ensures err { IfErr result (IsDue (NoWith bytes.now)) }
 {

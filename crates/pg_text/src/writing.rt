@@ -76,12 +76,7 @@ fn put_condition(out: &mut Vec<u8>, condition: &Cond, place: Place) -> Result<()
 }
 
 /// Puts the expression last, its operations by their names.
-fn put_expression(
-    out: &mut Vec<u8>,
-    names: &Names,
-    expr: &Expr,
-    place: Place,
-) -> Result<(), Memory>
+fn put_expression(out: &mut Vec<u8>, names: &Names, expr: &Expr, place: Place) -> Result<(), Memory>
     ensures { OnOk result (out.new.items ≡ out.old.items ++ expr_text names.now place expr.now) }
 {
     match expr {

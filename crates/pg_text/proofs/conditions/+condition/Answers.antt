@@ -6,7 +6,6 @@ use Rattle.pg_text.proofs.RowSteps.{found_more, only_more, row_ends, no_row}
 use Rattle.pg_text.proofs.FactorSteps.{group_too_deep, no_inside, no_close, group_read, negation_too_deep, no_operand, negation_read, parameter_read, bit_read, no_condition}
 use Rattle.pg_text.proofs.conditions.+condition.Goals as goal
 
-
 pub condition_at-members-preserved : goal.condition_at-members-preserved
 condition_at-members-preserved bound c = record {
   found = found_more condition sum c.args.room [] [] [] c.args.bytes.now c.members.left.now c.in_ok-member.after.now c.members.members.items c.push.new.self.items c.in_ok-member.member c.members.invariant.found c.members.invariant.only c.in_ok-member.ensures.found c.in_ok-push.ensures.items c.in-Some.rest.now c.in-Some.ensures.cases;

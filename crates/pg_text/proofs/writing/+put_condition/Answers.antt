@@ -16,8 +16,8 @@ returns-after-factors bound c =
     let whole = ap (λ l. placed c.args.place product (row_text (codes " & ") (map (cond_text place.Factor) l))) c.members-member-items.ensures ∙ sym (text-And c.args.place c.in-And.list.members) ∙ ap (cond_text c.args.place) (sym c.in-And.is) in
     on_ok c.put_if-in-And.result c.put_if-in-And.new.out.items _ _
     (put_all (cond_text place.Factor) (codes " & ") c.members-member-items.result.now c.factors.i c.args.out.now.items c.put_if.new.out.items c.factors.out.items c.encloses_product.result c.encloses_product-in-And.result (needs c.args.place product) (codes "(") (codes ")")
-        c.in_ok-put_if-in-And.ensures c.factors.invariant c.factors-test.false c.encloses_product.ensures c.encloses_product-in-And.ensures
-        ∙ ap (λ t. c.args.out.now.items ++ t) whole)
+    c.in_ok-put_if-in-And.ensures c.factors.invariant c.factors-test.false c.encloses_product.ensures c.encloses_product-in-And.ensures
+    ∙ ap (λ t. c.args.out.now.items ++ t) whole)
     c.put_if-in-And.ensures
 
 pub terms-preserved : goal.terms-preserved
@@ -30,12 +30,12 @@ returns-after-terms bound c =
     let whole = ap (λ l. placed c.args.place sum (row_text (codes " | ") (map (cond_text place.Product) l))) c.members-member-items-in-Or.ensures ∙ sym (text-Or c.args.place c.in-Or.list.members) ∙ ap (cond_text c.args.place) (sym c.in-Or.is) in
     on_ok c.put_if-in-Or-2.result c.put_if-in-Or-2.new.out.items _ _
     (put_all (cond_text place.Product) (codes " | ") c.members-member-items-in-Or.result.now c.terms.i c.args.out.now.items c.put_if-in-Or.new.out.items c.terms.out.items c.encloses_sum.result c.encloses_sum-in-Or.result (needs c.args.place sum) (codes "(") (codes ")")
-        c.in_ok-put_if-in-Or.ensures c.terms.invariant c.terms-test.false c.encloses_sum.ensures c.encloses_sum-in-Or.ensures
-        ∙ ap (λ t. c.args.out.now.items ++ t) whole)
+    c.in_ok-put_if-in-Or.ensures c.terms.invariant c.terms-test.false c.encloses_sum.ensures c.encloses_sum-in-Or.ensures
+    ∙ ap (λ t. c.args.out.now.items ++ t) whole)
     c.put_if-in-Or-2.ensures
 
 pub returns-in_ok-put-in-Not : goal.returns-in_ok-put-in-Not
 returns-in_ok-put-in-Not bound c = on_ok c.put_condition.result c.put_condition.new.out.items _ _
     (ap (λ o. o ++ cond_text place.Factor c.get.result.now) c.in_ok-put-in-Not.ensures ∙ append_assoc c.args.out.now.items (codes "!") (cond_text place.Factor c.get.result.now)
-        ∙ ap (λ t. c.args.out.now.items ++ t) (ap (λ x. codes "!" ++ cond_text place.Factor x) c.get.ensures ∙ sym (text-Not c.args.place c.in-Not.negated) ∙ ap (cond_text c.args.place) (sym c.in-Not.is)))
+    ∙ ap (λ t. c.args.out.now.items ++ t) (ap (λ x. codes "!" ++ cond_text place.Factor x) c.get.ensures ∙ sym (text-Not c.args.place c.in-Not.negated) ∙ ap (cond_text c.args.place) (sym c.in-Not.is)))
     c.put_condition.ensures

@@ -1,0 +1,175 @@
+use crate::{File, FileFault, Statement, read_file, write_file};
+use cpog_base::{Counted, Memory};
+use pg_algebra::{Cond, Expr};
+use std::alloc::Global;
+
+/// `front`, then so many times `piece`, then `middle`, then so many times `back`.
+fn nested(
+    alloc: Global,
+    front: &str,
+    piece: &str,
+    times: u32,
+    middle: &str,
+    back: &str,
+) -> Result<String, Memory> {
+    let mut text = String::from_str(alloc, front)?;
+    for _ in 0..times {
+        text.push_str(piece)?;
+    }
+    text.push_str(middle)?;
+    for _ in 0..times {
+        text.push_str(back)?;
+    }
+    Ok(text)
+}
+
+/// What is read of a text of at most a megabyte.
+fn read(alloc: Global, text: &str) -> Result<File, FileFault> {
+    if text.len() > 1100000 {
+        return Err(FileFault::Memory);
+    }
+    read_file(alloc, text.as_bytes())
+}
+
+/// The fault of a text.
+fn fault_of(alloc: Global, text: &str) -> Option<FileFault> {
+    match read(alloc, text) {
+        Ok(_) => None,
+        Err(fault) => Some(fault),
+    }
+}
+
+#[test]
+fn each_construct_has_its_tree(rt: HostRuntime) -> Result<(), FileFault> {
+    let text =
+        "params x, y # two\n\ngraph g = a -> [x & !y | 0] (b + empty)\r\nscenario A = @ g + a with y = 1, x = 0";
+    let file = read(rt.alloc(), text)?;
+    assert_eq!(rt; file.len(), 3);
+    assert_eq!(rt; file.line(1), 3);
+    assert_eq!(rt; file.operations().find("b"), Some(1));
+    match file.statement(0) {
+        Statement::Params { names } => assert_eq!(rt; names.as_slice().len(), 2),
+        _ => assert!(rt; false, "parameters"),
+    }
+    match file.statement(1) {
+        Statement::Graph {
+            name,
+            expr: Expr::Sequence(list),
+        } => {
+            assert_eq!(rt; name.as_str(), "g");
+            assert!(rt; matches!(list.members().first(), Some(Expr::Op(0))));
+            match list.members().last() {
+                Some(Expr::When(condition, governed)) => {
+                    assert!(rt; matches!(condition.get(), Cond::Or(_)));
+                    assert!(rt; matches!(governed.get(), Expr::Overlay(_)));
+                }
+                _ => assert!(rt; false, "a prefix"),
+            }
+        }
+        _ => assert!(rt; false, "a graph"),
+    }
+    match file.statement(2) {
+        Statement::Scenario {
+            name,
+            expr: Expr::Overlay(_),
+            bindings,
+        } => {
+            assert_eq!(rt; name.as_str(), "A");
+            assert_eq!(rt; bindings.as_slice().len(), 2);
+        }
+        _ => assert!(rt; false, "a scenario"),
+    }
+    Ok(())
+}
+
+#[test]
+fn nesting_ends_at_100_levels(rt: HostRuntime) -> Result<(), Memory> {
+    for (front, piece, middle, back) in [
+        ("scenario A = ", "(", "a", ")"),
+        ("scenario A = ", "[x]", "a", ""),
+        ("scenario A = [", "(", "x", ")"),
+        ("scenario A = [", "!", "x", ""),
+    ] {
+        let end = if front.len() == 14 { "] a" } else { "" };
+        let most = if front.len() == 14 { 99 } else { 100 };
+        let mut good = nested(rt.alloc(), front, piece, most, middle, back)?;
+        good.push_str(end)?;
+        assert_eq!(rt; fault_of(rt.alloc(), good.as_str()), None);
+        let mut bad = nested(rt.alloc(), front, piece, most + 1, middle, back)?;
+        bad.push_str(end)?;
+        assert_eq!(rt;
+            fault_of(rt.alloc(), bad.as_str()),
+            Some(FileFault::BadLine(1))
+        );
+        let mut deep = nested(rt.alloc(), front, piece, 300000, "", "")?;
+        deep.push_str(end)?;
+        assert_eq!(rt;
+            fault_of(rt.alloc(), deep.as_str()),
+            Some(FileFault::BadLine(1))
+        );
+    }
+    Ok(())
+}
+
+#[test]
+fn the_first_bad_line_is_told(rt: HostRuntime) {
+    for (text, want) in [
+        ("scenario A = a\n\nscenario A = a ->\nparams\n", 3),
+        ("scenario empty = b", 1),
+        ("code A 0101", 1),
+        ("scenario A = a - > b", 1),
+        ("scenario A = a with x = 2", 1),
+        ("graph g = a with x = 0", 1),
+        ("params x,", 1),
+        ("scenario A = [x | y & ] a", 1),
+        ("scenario A = a\rscenario B = b", 1),
+        ("scenario A = n23456789012345678901234567890123", 1),
+    ] {
+        assert_eq!(rt; fault_of(rt.alloc(), text), Some(FileFault::BadLine(want)));
+    }
+}
+
+#[test]
+fn the_first_count_that_passes_is_told(rt: HostRuntime) -> Result<(), Memory> {
+    let params = "params x, x, x\nparams x, x, x";
+    assert_eq!(rt; fault_of(rt.alloc(), params), None);
+    let graphs = nested(rt.alloc(), params, "\ngraph g = a", 256, "", "")?;
+    assert_eq!(rt; fault_of(rt.alloc(), graphs.as_str()), None);
+    let scenarios = nested(rt.alloc(), graphs.as_str(), "\nscenario A = a", 64, "", "")?;
+    assert_eq!(rt; fault_of(rt.alloc(), scenarios.as_str()), None);
+    let more = nested(
+        rt.alloc(),
+        scenarios.as_str(),
+        "\nscenario A = a",
+        1,
+        "",
+        "",
+    )?;
+    assert_eq!(rt;
+        fault_of(rt.alloc(), more.as_str()),
+        Some(FileFault::Limit(Counted::Scenarios, 64))
+    );
+    let more = nested(rt.alloc(), more.as_str(), "\ngraph g = a", 1, "", "")?;
+    assert_eq!(rt;
+        fault_of(rt.alloc(), more.as_str()),
+        Some(FileFault::Limit(Counted::Graphs, 256))
+    );
+    let more = nested(rt.alloc(), more.as_str(), "\nparams x", 1, "", "")?;
+    assert_eq!(rt;
+        fault_of(rt.alloc(), more.as_str()),
+        Some(FileFault::Limit(Counted::Params, 6))
+    );
+    Ok(())
+}
+
+#[test]
+fn no_parentheses_are_written_but_those_that_are_needed(rt: HostRuntime) -> Result<(), FileFault> {
+    let text =
+        "# three statements\nparams x,y\n graph g=(([x] (a->b)))+ [!(x)]((a)->b)\n\ngraph h=[x](a)->b # the end\nscenario A=@ g->([(x|0)&!(y|1)]a+empty)with x=0,y=1";
+    let want =
+        "params x, y\ngraph g = [x] (a -> b) + [!x] (a -> b)\ngraph h = [x] a -> b\nscenario A = @g -> ([(x | 0) & !(y | 1)] a + empty) with x = 0, y = 1\n";
+    let file = read(rt.alloc(), text)?;
+    let written = write_file(rt.alloc(), &file)?;
+    assert_eq!(rt; written.as_slice(), want.as_bytes());
+    Ok(())
+}
