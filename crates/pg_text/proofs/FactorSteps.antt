@@ -1,17 +1,16 @@
 -- A factor is told by its first token.
 use Rattle.std.specs.Prelude.{◌≡◌, ◌≤◌, ◌-◌, ℕ, List, [], ◌∷◌, ◌++◌, Bool, refl}
-use Rattle.std.proofs.Common.{sym, ◌∙◌, ap, ap₂, subst, arith}
+use Rattle.std.proofs.Common.{◌∙◌, ap, subst, arith}
 use Rattle.pg_algebra.specs.declared.cond.Cond.{Cond, Bit, Param}
 use Rattle.pg_algebra.specs.declared.cond.Cond.TheViews as cond
 use Rattle.pg_text.specs.declared.fault.LineFault.{LineFault}
 use Rattle.pg_text.specs.declared.fault.LineFault.TheVariants as fault
-use Rattle.pg_text.specs.declared.sign.Sign.{Sign}
 use Rattle.pg_text.specs.declared.sign.Sign.TheVariants as signs
 use Rattle.pg_text.specs.declared.sign.Fixed.TheVariants as words
-use Rattle.pg_text.specs.Tokens.{Token, name, word, sign, bit_word, BeginsWith, BeginsWithAll}
+use Rattle.pg_text.specs.Tokens.{Token, name, word, sign, bit_word, BeginsWith}
 use Rattle.pg_text.specs.Faults.{IsDue}
-use Rattle.pg_text.specs.Grammar.{Side, condition, graph, Row, product, sum, Level, factor, row, Phrase, single, joined, named, group, bit, negated, empty, reference, under, tokens, Tree, tree, join, members}
-use Rattle.pg_text.specs.Reading.{Lacks, Stops, IsAtFront, Reads, ReadsNone}
+use Rattle.pg_text.specs.Grammar.{Side, condition, graph, sum, factor, row, Phrase, named, group, bit, negated, empty, reference, under, tokens, Tree, tree, join}
+use Rattle.pg_text.specs.Reading.{Lacks, IsAtFront, Reads, ReadsNone}
 use Rattle.pg_text.proofs.TokenLaws.{same_token}
 use Rattle.pg_text.proofs.PhraseLaws.{both_begin, parts_begin, after_token, same_phrase, stops_at_close, name_no_sign, bit_no_sign, empty_no_sign, open_no_not, open_no_at, open_no_square}
 

@@ -1,8 +1,7 @@
 -- A file has few statements.
-use Rattle.std.specs.Prelude.{◌≡◌, ℕ, ◌+◌, ◌<◌, ◌≤◌, List, [], ◌∷◌, length, Option, Some, None, refl}
-use Rattle.std.proofs.Common.{sym, ap, subst, arith}
+use Rattle.std.specs.Prelude.{ℕ, ◌+◌, ◌≤◌, List, [], ◌∷◌, length, Option, Some, None}
+use Rattle.std.proofs.Common.{sym, subst, arith}
 use Rattle.cpog_base.specs.declared.limits.Counted.TheVariants as counted
-use Rattle.pg_text.specs.declared.statement.Statement.{Statement}
 use Rattle.pg_text.specs.declared.statement.Statement.TheVariants as statement
 use Rattle.pg_text.specs.declared.statement.Numbered.{Numbered}
 use Rattle.pg_text.specs.Grammar.{tree}

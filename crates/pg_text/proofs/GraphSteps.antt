@@ -1,6 +1,6 @@
 -- A factor of a graph that begins with `@` or `[`, a name, or nothing.
-use Rattle.std.specs.Prelude.{◌≡◌, ◌≤◌, ◌-◌, ℕ, List, [], ◌∷◌, ◌++◌, Bool, refl}
-use Rattle.std.proofs.Common.{sym, ◌∙◌, ap, ap₂, subst, arith}
+use Rattle.std.specs.Prelude.{◌≡◌, ◌≤◌, ◌-◌, ℕ, List, [], ◌∷◌, ◌++◌, refl}
+use Rattle.std.proofs.Common.{ap, ap₂, subst, arith}
 use Rattle.std.specs.List.{position_or_len}
 use Rattle.std.specs.Str.{bytes_eq}
 use Rattle.cpog_base.specs.Names.{with_text}
@@ -11,9 +11,9 @@ use Rattle.pg_text.specs.declared.fault.LineFault.{LineFault}
 use Rattle.pg_text.specs.declared.fault.LineFault.TheVariants as fault
 use Rattle.pg_text.specs.declared.sign.Sign.TheVariants as signs
 use Rattle.pg_text.specs.declared.sign.Fixed.TheVariants as words
-use Rattle.pg_text.specs.Tokens.{Token, name, word, sign, BeginsWith, BeginsWithAll}
+use Rattle.pg_text.specs.Tokens.{name, word, sign, BeginsWith}
 use Rattle.pg_text.specs.Faults.{IsDue}
-use Rattle.pg_text.specs.Grammar.{Side, condition, graph, Row, product, sum, Level, factor, row, Phrase, single, joined, named, group, empty, reference, under, tokens, tree}
+use Rattle.pg_text.specs.Grammar.{condition, graph, sum, factor, row, Phrase, named, group, empty, reference, under, tokens}
 use Rattle.pg_text.specs.Reading.{Lacks, IsAtFront, Reads, ReadsNone}
 use Rattle.pg_text.proofs.TokenLaws.{same_token}
 use Rattle.pg_text.proofs.PhraseLaws.{both_begin, parts_begin, after_token, same_phrase, stops_at_square, name_no_sign, empty_no_sign, open_no_at, open_no_square, at_no_square}

@@ -1,6 +1,6 @@
 -- A line is read part by part.
-use Rattle.std.specs.Prelude.{◌≡◌, ℕ, Bool, List, [], ◌∷◌, ◌++◌, Option, Some, None, refl}
-use Rattle.std.proofs.Common.{sym, ◌∙◌, ap, ap₂, subst}
+use Rattle.std.specs.Prelude.{◌≡◌, ℕ, Bool, List, [], ◌∷◌, ◌++◌, Some, None, refl}
+use Rattle.std.proofs.Common.{sym, ap, subst}
 use Rattle.pg_algebra.specs.declared.expr.Expr.{Expr}
 use Rattle.pg_text.specs.declared.sign.Sign.TheVariants as signs
 use Rattle.pg_text.specs.declared.sign.Fixed.TheVariants as words
@@ -10,14 +10,14 @@ use Rattle.pg_text.specs.declared.statement.Statement.{Statement}
 use Rattle.pg_text.specs.declared.statement.Statement.TheVariants as statement
 use Rattle.pg_text.specs.Tokens.{name, word, sign, bit_word, BeginsWith, BeginsWithAll, HasNoToken}
 use Rattle.pg_text.specs.Faults.{IsDue}
-use Rattle.pg_text.specs.Grammar.{graph, row, sum, Phrase, tokens, tree}
-use Rattle.pg_text.specs.Sentences.{Sentence, params_line, graph_line, scenario_line, commas, name_tokens, left_tokens, bind_tokens, with_tokens, IsSentence}
-use Rattle.pg_text.specs.Reading.{Lacks, IsAtFront, Reads, ReadsNone}
-use Rattle.pg_text.specs.ReadingLines.{ReadsCommas, NoCommas, WithStops, ReadsWith, NoWith, IsDefinition, ReadsDefinition, NoDefinition, ReadsSentence, ReadsLine, NoSentence, NoLine}
+use Rattle.pg_text.specs.Grammar.{graph, row, sum, tokens}
+use Rattle.pg_text.specs.Sentences.{params_line, graph_line, scenario_line, commas, name_tokens, left_tokens, bind_tokens, with_tokens}
+use Rattle.pg_text.specs.Reading.{Lacks, Reads, ReadsNone}
+use Rattle.pg_text.specs.ReadingLines.{ReadsCommas, NoCommas, ReadsWith, NoWith, ReadsDefinition, NoDefinition, ReadsSentence, ReadsLine, NoSentence, NoLine}
 use Rattle.pg_text.proofs.TokenLaws.{same_token}
-use Rattle.pg_text.proofs.PhraseLaws.{both_begin, parts_begin, after_token, same_phrase, end_lacks}
+use Rattle.pg_text.proofs.PhraseLaws.{both_begin, parts_begin, after_token, end_lacks}
 use Rattle.pg_text.proofs.CommaSteps.{same_commas}
-use Rattle.pg_text.proofs.SentenceLaws.{same_left, same_name, split_binding, same_with, with_stops_at_end, same_definition, params_behind, graph_behind, scenario_behind, begins, same_word, params_no_graph, params_no_scenario, graph_no_scenario, no_sentence}
+use Rattle.pg_text.proofs.SentenceLaws.{same_left, same_name, split_binding, same_with, with_stops_at_end, same_definition, params_behind, graph_behind, scenario_behind, same_word, params_no_graph, params_no_scenario, graph_no_scenario}
 
 -- ---- `NAME =`, and a binding
 

@@ -1,18 +1,18 @@
 -- The number of an operation stands for its name in the file's list.
 use Rattle.std.specs.Prelude.{◌≡◌, ◌<◌, ◌+◌, refl, ℕ, List, [], ◌∷◌, ◌++◌, map, length, slice_get, Option, Some, None}
-use Rattle.std.proofs.Common.{ap, ap₂, sym, ◌∙◌, subst, append-nil, append_assoc, length-append, arith, suc, zero}
+use Rattle.std.proofs.Common.{ap, ap₂, sym, ◌∙◌, subst, append-nil, length-append, arith, suc, zero}
 use Rattle.std.specs.List.{AllByRecursion, position_or_len}
 use Rattle.std.specs.Str.{bytes_eq}
 use Rattle.std.proofs.lemmas.List.{map-append}
 use Rattle.std.proofs.lemmas.Option.{slice_get_within, slice_get-get_or}
 use denote.Hole.Carrier.{hidden}
 use Rattle.cpog_base.specs.Names.{with_text}
-use Rattle.pg_algebra.specs.declared.expr.Expr.{Expr, Empty, Op, Graph}
+use Rattle.pg_algebra.specs.declared.expr.Expr.{Expr}
 use Rattle.pg_algebra.specs.declared.expr.Expr.TheBlock.{hidden-the_row-Expr-1}
 use Rattle.pg_algebra.specs.declared.expr.Expr.TheViews as expr
 use Rattle.pg_algebra.specs.declared.cond.Cond.{Cond}
 use Rattle.pg_text.specs.declared.statement.Numbered.{Numbered}
-use Rattle.pg_text.specs.Grammar.{Side, condition, graph, Row, product, sum, Level, factor, row, member, Phrase, single, joined, named, group, bit, negated, empty, reference, under, names_after, Tree, join, members, tree}
+use Rattle.pg_text.specs.Grammar.{Side, condition, graph, product, sum, Level, factor, row, member, Phrase, single, joined, named, group, bit, negated, empty, reference, under, names_after, Tree, join, members, tree}
 use Rattle.pg_text.specs.Sentences.{Sentence, params_line, graph_line, scenario_line, names_after_sentence, sentence_tree}
 use Rattle.pg_text.specs.Contents.{Contents}
 use Rattle.pg_text.specs.Text.{statements_from, IsReadAs, IsFile}
@@ -20,7 +20,6 @@ use Rattle.pg_text.specs.Text as text
 use Rattle.pg_text.specs.Numbers.{operations_in, sentence_operations, lines_operations, numbers_of, row_numbers, statement_numbers, file_numbers, NumbersStandForNames}
 use Rattle.pg_text.proofs.NameLemmas.{place-below}
 use Rattle.pg_text.proofs.PlainTexts.{Extends, extends-more, extends-self, extends-names, name_at_place}
-use Rattle.pg_text.proofs.SentenceTexts.{extends-sentence}
 use Rattle.pg_text.proofs.WriteLaws.{extends-lines}
 
 -- ---- numbers of trees in a row

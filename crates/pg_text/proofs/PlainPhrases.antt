@@ -1,6 +1,6 @@
 -- A phrase without the parentheses that it does not need: its tree and its names are the same, and it is no deeper.
-use Rattle.std.specs.Prelude.{◌≡◌, ◌≤◌, ◌-◌, refl, ℕ, Bool, true, false, List, [], ◌∷◌, ◌++◌}
-use Rattle.std.proofs.Common.{ap, ap₂, sym, ◌∙◌, arith, subst}
+use Rattle.std.specs.Prelude.{◌≡◌, ◌≤◌, ◌-◌, refl, ℕ, true, List, [], ◌∷◌}
+use Rattle.std.proofs.Common.{ap, ap₂, sym, ◌∙◌, arith}
 use Rattle.pg_algebra.specs.declared.cond.Cond.TheViews as cond
 use Rattle.pg_algebra.specs.declared.expr.Expr.TheViews as expr
 use Rattle.line_text.specs.Words.{is_free_name}

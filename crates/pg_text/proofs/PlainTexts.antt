@@ -1,6 +1,6 @@
 -- The text of a tree is the text of the phrase that has no needless parentheses.
-use Rattle.std.specs.Prelude.{◌≡◌, ◌<◌, refl, ℕ, Bool, true, false, cond, List, [], ◌∷◌, ◌++◌, map, length, codes, Some, None}
-use Rattle.std.proofs.Common.{ap, ap₂, sym, ◌∙◌, subst, append_assoc, append-nil, get_or, inl, inr}
+use Rattle.std.specs.Prelude.{◌≡◌, refl, ℕ, Bool, true, false, cond, List, [], ◌∷◌, ◌++◌, map, codes, Some, None}
+use Rattle.std.proofs.Common.{ap, ap₂, sym, ◌∙◌, append_assoc, append-nil, get_or, inl, inr}
 use Rattle.std.specs.List.{position_or_len}
 use Rattle.std.specs.Str.{bytes_eq}
 use Rattle.std.proofs.lemmas.Bool.{cases_Bool}
@@ -9,14 +9,12 @@ use Rattle.std.proofs.lemmas.List.Quantifiers.{position-Some}
 use Rattle.std.proofs.lemmas.Slice.Eq.{bytes_eq-Decides}
 use Rattle.cpog_base.specs.Names.{has_text, with_text}
 use Rattle.cpog_base.proofs.NamesLemmas.{place-with_text}
-use Rattle.pg_algebra.specs.declared.cond.Cond.{Cond}
-use Rattle.pg_algebra.specs.declared.expr.Expr.{Expr}
 use Rattle.pg_text.specs.declared.place.Place.{Place}
 use Rattle.pg_text.specs.declared.place.Place.TheVariants as place
 use Rattle.pg_text.specs.Grammar.{Side, condition, graph, Row, product, sum, Level, factor, row, member, Phrase, single, joined, named, group, bit, negated, empty, reference, under, names_after, Tree, join, members, tree}
 use Rattle.pg_text.specs.Writing.{placed, bit_text, cond_text, expr_text, rest_text, row_text}
 use Rattle.pg_text.proofs.RowTexts.{text-Not, text-And, text-Or, text-When, text-Overlay, text-Sequence}
-use Rattle.pg_text.proofs.PlainPhrases.{Natural, as_row, as_factor, fit, natural, rows, one}
+use Rattle.pg_text.proofs.PlainPhrases.{as_row, as_factor, fit, natural, rows, one}
 
 -- ---- lists of names that go on
 

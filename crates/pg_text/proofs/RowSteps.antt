@@ -5,9 +5,8 @@ use Rattle.pg_text.specs.declared.fault.LineFault.{LineFault}
 use Rattle.pg_text.specs.declared.fault.LineFault.TheVariants as fault
 use Rattle.pg_text.specs.Tokens.{sign, BeginsWith, BeginsWithAll}
 use Rattle.pg_text.specs.Faults.{IsDue}
-use Rattle.pg_text.specs.Grammar.{Side, Row, Level, row, member, joint, Phrase, single, joined, tokens, IsWithin, Tree, join, members, names_after}
-use Rattle.pg_text.specs.Reading.{Lacks, Stops, IsAtFront, Reads, ReadsNone}
-use Rattle.pg_text.proofs.TokenLaws.{same_token}
+use Rattle.pg_text.specs.Grammar.{Side, Row, row, member, joint, Phrase, single, joined, tokens, IsWithin, Tree, join, members, names_after}
+use Rattle.pg_text.specs.Reading.{Lacks, IsAtFront, Reads, ReadsNone}
 use Rattle.pg_text.proofs.PhraseLaws.{both_begin, parts_begin, after_token, same_phrase, member_stops, row_lacks, row_stops, stops_at_joint}
 
 -- a row begins with its first member

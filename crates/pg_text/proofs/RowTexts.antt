@@ -1,21 +1,21 @@
 -- The texts of trees, by the lists of their members.
-use Rattle.std.specs.Prelude.{◌≡◌, ◌<◌, ◌≤◌, ◌+◌, refl, ℕ, Bool, true, false, ◌==◌, List, [], ◌∷◌, ◌++◌, map, take, length, codes, slice_get, Some, nat_lt}
-use Rattle.std.proofs.Common.{ap, ap₂, sym, suc, zero, arith, ◌∙◌, append_assoc, append-nil, get_or, subst}
+use Rattle.std.specs.Prelude.{◌≡◌, ◌<◌, ◌≤◌, ◌+◌, refl, ℕ, Bool, true, List, [], ◌∷◌, ◌++◌, map, take, length, codes, nat_lt}
+use Rattle.std.proofs.Common.{ap, ap₂, sym, suc, arith, ◌∙◌, append_assoc, append-nil, get_or, subst}
 use Rattle.std.proofs.lemmas.Bool.Decides.{nat_tests}
 use Rattle.std.specs.Result.{OnOk}
 use Rattle.std.specs.declared.result.Result.{Result}
 use Rattle.std.proofs.lemmas.List.{take_more, take_all, length-take-le, length-map, map-append}
 use denote.Hole.Carrier.{hidden}
-use Rattle.pg_algebra.specs.declared.cond.Cond.{Cond, Bit, Param}
+use Rattle.pg_algebra.specs.declared.cond.Cond.{Cond}
 use Rattle.pg_algebra.specs.declared.cond.Cond.TheBlock.{hidden-the_row-Cond-1}
 use Rattle.pg_algebra.specs.declared.cond.Cond.TheViews as cond
-use Rattle.pg_algebra.specs.declared.expr.Expr.{Expr, Empty, Op, Graph}
+use Rattle.pg_algebra.specs.declared.expr.Expr.{Expr}
 use Rattle.pg_algebra.specs.declared.expr.Expr.TheBlock.{hidden-the_row-Expr-1}
 use Rattle.pg_algebra.specs.declared.expr.Expr.TheViews as expr
 use Rattle.pg_text.specs.declared.place.Place.{Place}
 use Rattle.pg_text.specs.declared.place.Place.TheVariants as place
-use Rattle.pg_text.specs.Grammar.{Row, product, sum}
-use Rattle.pg_text.specs.Writing.{when_needed, needs, placed, cond_text, cond_row, cond_rest, expr_text, expr_row, expr_rest, rest_text, row_text}
+use Rattle.pg_text.specs.Grammar.{product, sum}
+use Rattle.pg_text.specs.Writing.{when_needed, placed, cond_text, cond_row, cond_rest, expr_text, expr_row, expr_rest, rest_text, row_text}
 
 cond_rest-members : (sign : List ℕ) (p : Place) (cs : List Cond) → cond_rest sign p (hidden-the_row-Cond-1 cs) ≡ rest_text sign (map (cond_text p) cs)
 unfolding hidden-the_row-Cond-1 hidden

@@ -4,9 +4,9 @@ use Rattle.std.proofs.Common.{sym, ◌∙◌, ap, ap₂, subst}
 use Rattle.pg_text.specs.declared.sign.Sign.TheVariants as signs
 use Rattle.pg_text.specs.declared.sign.Fixed.{Fixed}
 use Rattle.pg_text.specs.declared.sign.Fixed.TheVariants as words
-use Rattle.pg_text.specs.Tokens.{Token, name, word, sign, bit_word, BeginsWith, BeginsWithAll, HasNoToken, Spells}
-use Rattle.pg_text.specs.Grammar.{Side, Level, graph, row, sum, Phrase, tokens, IsWithin}
-use Rattle.pg_text.specs.Sentences.{Sentence, params_line, graph_line, scenario_line, commas, name_tokens, left_tokens, bind_tokens, with_tokens, sentence_tokens, IsSentence, IsLine}
+use Rattle.pg_text.specs.Tokens.{name, word, sign, bit_word, BeginsWith, BeginsWithAll, HasNoToken}
+use Rattle.pg_text.specs.Grammar.{Side, Level, graph, row, sum, Phrase, tokens}
+use Rattle.pg_text.specs.Sentences.{Sentence, params_line, graph_line, scenario_line, commas, name_tokens, left_tokens, bind_tokens, with_tokens, IsSentence, IsLine}
 use Rattle.pg_text.specs.Reading.{Lacks, Stops}
 use Rattle.pg_text.specs.ReadingLines.{WithStops, IsDefinition}
 use Rattle.pg_text.proofs.TokenLaws.{same_token, no_token}

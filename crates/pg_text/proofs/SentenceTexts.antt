@@ -1,20 +1,16 @@
 -- The text of a statement is spelled as the statement.
 use Rattle.std.specs.Prelude.{◌≡◌, refl, ℕ, Bool, true, List, [], ◌∷◌, ◌++◌, map, codes}
-use Rattle.std.proofs.Common.{ap, ap₂, sym, ◌∙◌, subst, append_assoc, append-nil}
+use Rattle.std.proofs.Common.{ap, sym, subst, append_assoc, append-nil}
 use Rattle.std.specs.List.{list_all, AllByRecursion}
-use Rattle.line_text.specs.Words.{continues_name, is_free_name}
-use Rattle.pg_algebra.specs.declared.expr.Expr.{Expr}
-use Rattle.pg_text.specs.declared.place.Place.TheVariants as place
+use Rattle.line_text.specs.Words.{is_free_name}
 use Rattle.pg_text.specs.declared.sign.Sign.TheVariants as signs
 use Rattle.pg_text.specs.declared.sign.Fixed.TheVariants as words
-use Rattle.pg_text.specs.declared.statement.Statement.{Statement}
 use Rattle.pg_text.specs.declared.statement.Statement.TheVariants as statement
-use Rattle.pg_text.specs.Tokens.{Token, name, word, sign, bit_word, BeginsWith, BeginsWithAll, HasNoToken}
-use Rattle.pg_text.specs.Grammar.{graph, row, sum, Phrase, tokens, IsWithin, tree, names_after}
-use Rattle.pg_text.specs.Sentences.{Sentence, params_line, graph_line, scenario_line, commas, name_tokens, left_tokens, bind_tokens, with_tokens, sentence_tokens, IsShallow, IsSentence, names_after_sentence, sentence_tree}
-use Rattle.pg_text.specs.Writing.{bit_text, expr_text, rest_text, row_text, bind_text, with_text, statement_text}
+use Rattle.pg_text.specs.Tokens.{Token, name, word, sign, bit_word, BeginsWithAll, HasNoToken}
+use Rattle.pg_text.specs.Grammar.{graph, row, sum, Phrase, tokens, IsWithin}
+use Rattle.pg_text.specs.Sentences.{Sentence, params_line, graph_line, scenario_line, commas, name_tokens, left_tokens, bind_tokens, with_tokens, IsSentence, names_after_sentence, sentence_tree}
+use Rattle.pg_text.specs.Writing.{bit_text, rest_text, row_text, bind_text, with_text, statement_text}
 use Rattle.pg_text.proofs.PhraseLaws.{both_begin, parts_begin}
-use Rattle.pg_text.proofs.SentenceLaws.{split_binding}
 use Rattle.pg_text.proofs.PlainPhrases.{fit, natural, names-plain, tree-plain, within-plain, HasNames, has_names-plain}
 use Rattle.pg_text.proofs.PlainTexts.{Extends, extends-names, extends-self, written, written-plain}
 use Rattle.pg_text.proofs.Spelling.{EndsWord, spell, behind_blank, some_token, all_behind_blank, spell-bit, spell-phrase, spelled-names, in_line, all-append, name-in_line, bit-in_line, phrase-in_line}

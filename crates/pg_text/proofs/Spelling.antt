@@ -1,16 +1,15 @@
 -- The text of a phrase is its tokens.
-use Rattle.std.specs.Prelude.{◌≡◌, ◌≢◌, refl, ℕ, Bool, true, false, not, ◌&&◌, ◌||◌, ◌==◌, List, [], ◌∷◌, ◌++◌, codes}
-use Rattle.std.proofs.Common.{ap, ap₂, sym, ◌∙◌, subst, append_assoc, arith}
+use Rattle.std.specs.Prelude.{◌≡◌, refl, ℕ, Bool, true, false, not, ◌&&◌, ◌||◌, ◌==◌, List, [], ◌∷◌, ◌++◌, codes}
+use Rattle.std.proofs.Common.{ap, sym, ◌∙◌, subst, append_assoc, arith}
 use Rattle.std.specs.List.{list_all}
 use Rattle.std.proofs.lemmas.Bool.{both_ways, and_parts, and_from}
 use Rattle.std.proofs.lemmas.Bool.Decides.{nat_tests}
 use Rattle.line_text.specs.Words.{begins_name, continues_name, all_continue, is_free_name}
-use Rattle.pg_text.specs.declared.sign.Sign.{Sign}
 use Rattle.pg_text.specs.declared.sign.Sign.TheVariants as signs
 use Rattle.pg_text.specs.declared.sign.Fixed.{Fixed}
 use Rattle.pg_text.specs.declared.sign.Fixed.TheVariants as words
-use Rattle.pg_text.specs.Tokens.{Token, name, word, sign, bit_word, sign_text, word_text, is_blank, IsRun, NoneFirst, StartsWith, BeginsWith, BeginsWithAll}
-use Rattle.pg_text.specs.Grammar.{Side, condition, graph, Row, product, sum, Level, factor, row, member, joint, Phrase, single, joined, named, group, bit, negated, empty, reference, under, tokens}
+use Rattle.pg_text.specs.Tokens.{Token, name, word, sign, bit_word, sign_text, word_text, is_blank, NoneFirst, StartsWith, BeginsWith, BeginsWithAll}
+use Rattle.pg_text.specs.Grammar.{Side, condition, graph, Row, product, sum, Level, joint, Phrase, single, joined, named, group, bit, negated, empty, reference, under, tokens}
 use Rattle.pg_text.specs.Writing.{bit_text}
 use Rattle.pg_text.proofs.PhraseLaws.{both_begin, parts_begin}
 use Rattle.pg_text.proofs.PlainPhrases.{HasNames}

@@ -7,9 +7,9 @@ use Rattle.cpog_base.specs.declared.limits.Counted.TheVariants as counted
 use Rattle.pg_text.specs.declared.fault.FileFault.{FileFault}
 use Rattle.pg_text.specs.declared.fault.FileFault.TheVariants as fault
 use Rattle.pg_text.specs.Lines.{graph_lines, IsFirstBad}
-use Rattle.pg_text.specs.Sentences.{Sentence, IsLine}
+use Rattle.pg_text.specs.Sentences.{Sentence}
 use Rattle.pg_text.specs.Contents.{Contents}
-use Rattle.pg_text.specs.Text.{IsGoodLine, AreSpelled, statements_from, names_after, count_of, IsReadAs, IsFileOf, IsFirstPassed, IsPassed, IsFileFault}
+use Rattle.pg_text.specs.Text.{IsGoodLine, AreSpelled, statements_from, names_after, count_of, IsReadAs, IsFileOf, IsFirstPassed, IsFileFault}
 use Rattle.pg_text.proofs.SentenceLaws.{same_line}
 
 same_sentences : (xs ys : List (Option Sentence)) (lines : List (List ℕ)) → AreSpelled xs lines → AreSpelled ys lines → xs ≡ ys

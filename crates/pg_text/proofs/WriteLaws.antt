@@ -1,18 +1,18 @@
 -- The text of a file is read as its statements, with the lines numbered from 1.
-use Rattle.std.specs.Prelude.{◌≡◌, ◌≢◌, ◌<◌, ◌≤◌, ◌+◌, ◌-◌, ◌==◌, refl, ℕ, Bool, true, false, not, ◌&&◌, cond, List, [], ◌∷◌, ◌++◌, map, length, slice_index, sum_by, Option, Some, None}
+use Rattle.std.specs.Prelude.{◌≡◌, ◌≢◌, ◌+◌, ◌-◌, ◌==◌, refl, ℕ, Bool, true, false, not, List, [], ◌∷◌, map, length, slice_index, Option, Some, None}
 use Rattle.std.proofs.Common.{ap, ap₂, sym, ◌∙◌, subst, arith, suc, zero}
 use Rattle.std.specs.List.{list_all, AllByRecursion}
 use Rattle.std.proofs.lemmas.Bool.{both_ways, and_parts}
 use Rattle.std.proofs.lemmas.List.Sums.{sum_by-cons}
-use Rattle.line_text.specs.Lines.{lines_of, text_of}
+use Rattle.line_text.specs.Lines.{text_of}
 use Rattle.line_text.proofs.SplittingLemmas.{lines_again}
 use Rattle.cpog_base.specs.declared.limits.Counted.{Counted}
 use Rattle.cpog_base.specs.declared.limits.Counted.TheVariants as counted
 use Rattle.pg_text.specs.declared.statement.Numbered.{Numbered}
 use Rattle.pg_text.specs.Lines.{without_return, graph_lines}
-use Rattle.pg_text.specs.Sentences.{Sentence, IsLine, names_after_line, names_after_sentence, sentence_tree, line_tree}
+use Rattle.pg_text.specs.Sentences.{Sentence, IsLine, names_after_sentence, sentence_tree}
 use Rattle.pg_text.specs.Contents.{Contents}
-use Rattle.pg_text.specs.Text.{AreSpelled, put_statement, statements_from, names_after, IsReadAs, count_in, count_of, IsFileOf, IsFile}
+use Rattle.pg_text.specs.Text.{AreSpelled, statements_from, names_after, IsReadAs, count_in, count_of, IsFileOf, IsFile}
 use Rattle.pg_text.specs.Writing.{statement_text, file_text, numbered_from, renumbered}
 use Rattle.pg_text.proofs.PlainTexts.{Extends, extends-more, extends-self}
 use Rattle.pg_text.proofs.Spelling.{in_line}

@@ -1,5 +1,5 @@
 -- The grammar of a line: what stands in it, its tokens, its levels, its tree, and the operation names after it.
-use Rattle.std.specs.Prelude.{◌≤◌, ◌-◌, ℕ, Bool, false, List, [], ◌∷◌, ◌++◌, Option, Some, None}
+use Rattle.std.specs.Prelude.{◌≤◌, ◌-◌, ℕ, Bool, List, [], ◌∷◌, ◌++◌}
 use Rattle.std.specs.List.{position_or_len}
 use Rattle.std.specs.Str.{bytes_eq}
 use Rattle.cpog_base.specs.Names.{with_text}

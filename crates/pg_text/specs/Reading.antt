@@ -1,7 +1,6 @@
 -- What is read at the front of some bytes, and the rest.
-use Rattle.std.specs.Prelude.{◌≡◌, ℕ, List, Option}
-use Rattle.pg_text.specs.declared.sign.Sign.TheVariants as signs
-use Rattle.pg_text.specs.Tokens.{Token, sign, BeginsWith, BeginsWithAll, Spells}
+use Rattle.std.specs.Prelude.{◌≡◌, ℕ, List}
+use Rattle.pg_text.specs.Tokens.{Token, sign, BeginsWith, BeginsWithAll}
 use Rattle.pg_text.specs.Grammar.{Side, Level, factor, row, product, sum, Phrase, joint, tokens, IsWithin, Tree, tree, names_after}
 
 -- the token does not come next

@@ -1,4 +1,4 @@
-use Rattle.std.proofs.Common.{◌+◌, ◌*◌, ◌≤◌, [], length}
+use Rattle.std.proofs.Common.{◌+◌, ◌*◌, ◌≤◌, length}
 use Rattle.pg_text.specs.Grammar.{graph, product, sum}
 use Rattle.pg_text.proofs.RowSteps.{FoundRow, OnlyRow}
 use Rattle.pg_text.proofs.expressions.+expression.Given as goal

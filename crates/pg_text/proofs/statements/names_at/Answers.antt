@@ -1,4 +1,3 @@
-use Rattle.std.proofs.Common.{arith}
 use Rattle.pg_text.specs.Sentences.{name_tokens}
 use Rattle.pg_text.proofs.CommaSteps.{found_more, only_more, commas_end, no_commas}
 use Rattle.pg_text.proofs.LineSteps.{name_item, no_name_item}

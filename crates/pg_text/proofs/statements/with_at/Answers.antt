@@ -1,5 +1,5 @@
 use Rattle.std.proofs.lemmas.Result.{err_from_is_err_and}
-use Rattle.pg_text.proofs.LineSteps.{no_with, with_read, none_read}
+use Rattle.pg_text.proofs.LineSteps.{no_with, with_read}
 use Rattle.pg_text.proofs.statements.with_at.Goals as goal
 
 pub returns-in_err-bindings-clause-err : goal.returns-in_err-bindings-clause-err

@@ -1,4 +1,3 @@
-use Rattle.std.specs.Prelude.{refl}
 use Rattle.pg_text.specs.Tokens.{word_text}
 use Rattle.pg_text.proofs.TokenLaws.{no_word, differs, same_word_text}
 use Rattle.pg_text.proofs.tokens.after_word.Goals as goal

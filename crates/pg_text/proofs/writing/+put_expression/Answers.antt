@@ -1,5 +1,5 @@
 use Rattle.std.specs.Prelude.{codes, map, ◌++◌}
-use Rattle.std.proofs.Common.{sym, ap, ap₂, ◌∙◌, append_assoc}
+use Rattle.std.proofs.Common.{sym, ap, ap₂, ◌∙◌}
 use Rattle.pg_text.specs.declared.place.Place.TheVariants as place
 use Rattle.pg_text.specs.Grammar.{product, sum}
 use Rattle.pg_text.specs.Writing.{needs, placed, row_text, cond_text, expr_text}
