@@ -1,4 +1,13 @@
-//! The graph text.
+//! The graph text: from bytes to the file of statements that they spell, and from a file to its text (Mokhov and
+//! Khomenko 2014 have the algebra that its expressions write). It stands on the trees of `pg_algebra` and on the lines
+//! and words of `line_text`; no program reads by it yet.
+//!
+//! Lines are split off the text (`lines`) and tokens are taken from the front of a line (`tokens`), so that no list of
+//! either is built. Out of tokens conditions (`conditions`), expressions (`expressions`), statements (`statements`) and
+//! the file (`reading`) are read, and `writing` goes the other way. The grammar is a data type of what stands in a line:
+//! a derivation of its rules, with its tokens, its levels and its tree as functions of it. The crate promises that a file
+//! is read exactly where the grammar has one within the counts, and then that file; that else the first bad line or the
+//! first count that passes its limit is told; and that what is written is read as the same statements.
 #![tactic(auto)]
 
 mod conditions;
