@@ -5,7 +5,7 @@ use Rattle.std.specs.List.{AllByRecursion}
 use Rattle.plain_text.specs.declared.expr.Expr.{Expr, Op, Overlay', Sequence', Row_of-Expr, end_of-Expr, more_of-Expr}
 use Rattle.plain_text.specs.Shapes.{JoinsTwo, HasOpsBelow, HasOpsBelow_row}
 use Rattle.plain_text.proofs.ShapeLemmas.{JoinsTwo-Overlay, JoinsTwo-Sequence, HasOpsBelow-Overlay, HasOpsBelow-Sequence}
-use Rattle.plain_text.specs.declared.sign.Sign.TheVariants as signs
+use Rattle.pg_text.specs.declared.sign.Sign.TheVariants as signs
 use Rattle.plain_text.specs.declared.statement.Numbered.{Numbered}
 use Rattle.line_text.specs.Words.{is_free_name}
 use Rattle.plain_text.specs.Tokens.{sign, BeginsWithAll, Spells}

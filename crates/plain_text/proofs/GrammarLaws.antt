@@ -1,11 +1,11 @@
 -- A line is spelled by one sentence at most.
 use Rattle.std.specs.Prelude.{◌≡◌, ℕ, List, [], ◌∷◌, ◌++◌, Option, Some, None, refl}
 use Rattle.std.proofs.Common.{sym, ◌∙◌, ap, ap₂, subst}
-use Rattle.plain_text.specs.declared.sign.Sign.TheVariants as signs
+use Rattle.pg_text.specs.declared.sign.Sign.TheVariants as signs
 use Rattle.plain_text.specs.Tokens.{Token, name, scenario, sign, BeginsWith, BeginsWithAll, HasNoToken, Spells}
 use Rattle.plain_text.specs.Grammar.{Atom, named, Seq, last, arrow, Sum, single, plus, Sentence, scenario_line, atom_tokens, seq_tokens, sum_tokens, sentence_tokens, line_tokens}
 use Rattle.plain_text.specs.Reading.{Lacks}
-use Rattle.plain_text.proofs.TokenLaws.{same_token, no_token}
+use Rattle.pg_text.proofs.TokenLaws.{same_token, no_token}
 
 -- ---- tokens one after another
 

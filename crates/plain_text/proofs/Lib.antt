@@ -1,7 +1,5 @@
-pub mod Runs
 pub mod MeaningLemmas
 pub mod ShapeLemmas
-pub mod TokenLaws
 pub mod GrammarLaws
 pub mod SeqSteps
 pub mod SumSteps

@@ -2,7 +2,7 @@
 use Rattle.std.specs.Prelude.{◌≡◌, ℕ, List, Some, None, refl}
 use Rattle.std.proofs.Common.{sym, ◌∙◌, ap, ap₂, subst}
 use Rattle.plain_text.specs.declared.expr.Expr.{Expr}
-use Rattle.plain_text.specs.declared.sign.Sign.TheVariants as signs
+use Rattle.pg_text.specs.declared.sign.Sign.TheVariants as signs
 use Rattle.plain_text.specs.declared.fault.LineFault.{LineFault}
 use Rattle.plain_text.specs.declared.fault.LineFault.TheVariants as fault
 use Rattle.plain_text.specs.declared.statement.Statement.{Statement}
@@ -11,7 +11,7 @@ use Rattle.plain_text.specs.Tokens.{name, scenario, sign, BeginsWith, BeginsWith
 use Rattle.plain_text.specs.Faults.{IsDue}
 use Rattle.plain_text.specs.Grammar.{scenario_line, head_tokens, sum_tokens}
 use Rattle.plain_text.specs.Reading.{Lacks, ReadsSum, ReadsSentence, ReadsLine, NoSum, NoSentence, NoLine}
-use Rattle.plain_text.proofs.TokenLaws.{same_token}
+use Rattle.pg_text.proofs.TokenLaws.{same_token}
 use Rattle.plain_text.proofs.GrammarLaws.{both_begin, parts_begin, same_sum, end_lacks, name_of}
 
 -- ---- the head

@@ -2,14 +2,14 @@
 use Rattle.std.specs.Prelude.{◌≡◌, ℕ, List, [], ◌∷◌, ◌++◌, refl}
 use Rattle.std.proofs.Common.{sym, ◌∙◌, ap, ap₂, subst, append_assoc}
 use Rattle.plain_text.specs.declared.expr.Expr.{Expr}
-use Rattle.plain_text.specs.declared.sign.Sign.TheVariants as signs
+use Rattle.pg_text.specs.declared.sign.Sign.TheVariants as signs
 use Rattle.plain_text.specs.declared.fault.LineFault.{LineFault}
 use Rattle.plain_text.specs.declared.fault.LineFault.TheVariants as fault
 use Rattle.plain_text.specs.Tokens.{name, sign, BeginsWith, BeginsWithAll}
 use Rattle.plain_text.specs.Faults.{IsDue}
 use Rattle.plain_text.specs.Grammar.{named, Seq, last, arrow, atom_tokens, seq_tokens, seq_members, names_after_seq, sequence_of}
 use Rattle.plain_text.specs.Reading.{Lacks, ReadsAtom, ReadsSeq, NoAtom, NoSeq}
-use Rattle.plain_text.proofs.TokenLaws.{same_token}
+use Rattle.pg_text.proofs.TokenLaws.{same_token}
 use Rattle.plain_text.proofs.GrammarLaws.{both_begin, parts_begin, same_atom}
 
 -- what a sequence of the rest makes of the whole: its members come after those that stand in front

@@ -5,7 +5,7 @@ use Rattle.std.specs.Str.{bytes_eq}
 use Rattle.cpog_base.specs.Names.{with_text}
 use Rattle.plain_text.specs.declared.expr.Expr.{Expr, Op}
 use Rattle.plain_text.specs.declared.expr.Expr.TheViews.{Overlay, Sequence}
-use Rattle.plain_text.specs.declared.sign.Sign.TheVariants as signs
+use Rattle.pg_text.specs.declared.sign.Sign.TheVariants as signs
 use Rattle.plain_text.specs.declared.statement.Statement.{Statement}
 use Rattle.plain_text.specs.declared.statement.Statement.TheVariants as statement
 use Rattle.plain_text.specs.Tokens.{Token, name, scenario, sign}

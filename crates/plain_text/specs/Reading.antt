@@ -1,7 +1,7 @@
 -- What is read at the front of some bytes: with the operation names before it, its tree, the names after it, and the rest.
 use Rattle.std.specs.Prelude.{◌≡◌, ℕ, List, Option}
 use Rattle.plain_text.specs.declared.expr.Expr.{Expr}
-use Rattle.plain_text.specs.declared.sign.Sign.TheVariants as signs
+use Rattle.pg_text.specs.declared.sign.Sign.TheVariants as signs
 use Rattle.plain_text.specs.declared.statement.Statement.{Statement}
 use Rattle.plain_text.specs.Tokens.{Token, sign, BeginsWith, BeginsWithAll, Spells}
 use Rattle.plain_text.specs.Grammar.{Atom, Seq, Sum, Sentence, atom_tokens, seq_tokens, sum_tokens, sentence_tokens, line_tokens, names_after_atom, names_after_seq, names_after_sum, names_after_sentence, names_after_line, atom_tree, seq_tree, sum_tree, sentence_tree, line_tree}

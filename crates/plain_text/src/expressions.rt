@@ -9,9 +9,8 @@ ghost use Rattle.plain_text.specs.Reading.{ReadsAtom, ReadsSeq, ReadsSum, NoAtom
 
 use crate::expr::{Expr, ExprList};
 use crate::fault::LineFault;
-use crate::sign::Sign;
-use crate::tokens::{after_sign, name_at};
 use cpog_base::{Memory, Names};
+use pg_text::{Sign, after_sign, name_at};
 use std::alloc::Global;
 
 /// One member for itself, or the sequence of two or more.

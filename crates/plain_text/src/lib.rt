@@ -2,8 +2,8 @@
 //! bytes to the file that they spell (Mokhov and Khomenko 2014 have the algebra that its expressions write). `synth`
 //! reads by it until it takes the whole algebra of `pg_algebra`.
 //!
-//! Lines are split off the text (`lines`), tokens are taken from the front of a line (`tokens`), and out of
-//! them expressions (`expressions`), statements (`statements`) and the file (`reading`) are read. The grammar is a data
+//! Lines and tokens are those of `pg_text`, the reader of the whole graph text. Out of them expressions
+//! (`expressions`), statements (`statements`) and the file (`reading`) are read. The grammar is a data
 //! type of what stands in a line, with its tokens and its tree. The crate promises that a file is read exactly where
 //! the grammar has one within the limits, and then that file; and that else the first bad line or the first limit that
 //! is passed is told. Its trees (`expr`) and the graph of each stand here too.
@@ -14,14 +14,11 @@ mod expressions;
 mod fault;
 mod file;
 mod laws;
-mod lines;
 mod reading;
-mod sign;
 mod statement;
 mod statements;
 #[cfg(test)]
 mod tests;
-mod tokens;
 
 pub use expr::{Expr, ExprList};
 pub use fault::FileFault;

@@ -4,10 +4,10 @@ ghost use Rattle.plain_text.specs.Text.{IsReadAs, IsFileOf, IsFileFault, put_sta
 
 use crate::fault::{FileFault, LineFault};
 use crate::file::File;
-use crate::lines::next_graph_line;
 use crate::statement::{Numbered, Statement};
 use crate::statements::read_line;
 use cpog_base::{Counted, Memory, Names, OPERATION_LIMIT, SCENARIO_LIMIT};
+use pg_text::next_graph_line;
 use std::alloc::Global;
 
 /// Puts the statement of a line last, if the line has one.

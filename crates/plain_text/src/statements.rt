@@ -7,10 +7,9 @@ ghost use Rattle.plain_text.specs.Grammar.{head_tokens};
 
 use crate::expressions::expression_at;
 use crate::fault::LineFault;
-use crate::sign::Sign;
 use crate::statement::Statement;
-use crate::tokens::{after_scenario, after_sign, is_ended, name_at};
 use cpog_base::{Name, Names};
+use pg_text::{Fixed, Sign, after_sign, after_word, is_ended, name_at};
 use std::alloc::Global;
 
 /// The name of the scenario that the line begins, and what follows its `=`.
@@ -18,7 +17,7 @@ fn scenario_head(line: &[u8]) -> Option<(&str, &[u8])>
     ensures cases { MatchOption result ((w rest : List ℕ) → BeginsWithAll line.now (head_tokens w) rest → ⊥) (λ p. BeginsWithAll line.now (head_tokens p.0.now) p.1.now) }
     ensures shorter { IfSome result (λ p. length p.1.now < length line.now) }
 {
-    let after = after_scenario(line)?;
+    let after = after_word(line, Fixed::Scenario)?;
     let (name, after) = name_at(after)?;
     let rest = after_sign(after, Sign::Equals)?;
     Some((name, rest))

@@ -1,5 +1,0 @@
-use Rattle.plain_text.proofs.TokenLaws.{ended_after}
-use Rattle.plain_text.proofs.tokens.is_ended.Goals as goal
-
-pub returns : goal.returns
-returns c = ended_after c.args.bytes.now c.split_blanks.result.0.now c.split_blanks.result.1.now c.is_comment.result c.split_blanks.ensures c.is_comment.ensures
