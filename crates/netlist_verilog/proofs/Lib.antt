@@ -11,5 +11,6 @@ pub mod RowLemmas
 pub mod LawLemmas
 pub mod OwnLemmas
 pub mod CallingLemmas
+pub mod KeywordLemmas
 pub mod SpellingLemmas
 pub mod ReadingLemmas

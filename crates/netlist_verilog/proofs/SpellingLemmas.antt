@@ -1,5 +1,5 @@
 -- The text of a formula is spelled as an expression whose formula it is.
-use Rattle.std.proofs.Common.{◌≡◌, ℕ, ◌-◌, eqb, Bool, true, false, cond, ◌||◌, List, [], ◌∷◌, ◌++◌, refl, sym, ap, ap₂, ◌∙◌, inl, inr, arith, append_assoc, subst}
+use Rattle.std.proofs.Common.{◌≡◌, ℕ, ◌-◌, eqb, Bool, true, false, not, cond, ◌||◌, List, [], ◌∷◌, ◌++◌, refl, sym, ap, ap₂, ◌∙◌, inl, inr, arith, append_assoc, subst}
 use Rattle.std.specs.Prelude.{codes, nat_lt, if◌then◌else◌}
 use Rattle.std.specs.List.{list_all}
 use Rattle.std.specs.Fmt.{decimal}
@@ -10,10 +10,12 @@ use Rattle.line_text.proofs.TellingLemmas.{AllPass, AllPass-append, decimal_cont
 use Rattle.netlist_verilog.specs.Module.{ModuleValue, IsModule, IsWireOf, called}
 use Rattle.netlist_verilog.specs.Wires.{Wire, Signal, Go, Acknowledge, Request, Done, Idle, Condition, ArcCondition, name_of}
 use Rattle.netlist_verilog.specs.Formulas.{Formula, Bit, Read, Not, And, Xor, Or, ReadsOnly, tightness, grouped, formula_text}
+use Rattle.netlist_verilog.specs.Keywords.{is_keyword}
 use Rattle.netlist_verilog.specs.Grammar.{Operator, and, xor, or, Token, name, bit, tilde, operator, opening, closing, token_text, continues_identifier, is_identifier, IsTokenOf, lengthens, is_blank, NoneFirst, Spells, Level, primary, unary, row, Expression, named, constant, group, plain, negated, single, joined, tokens, formula, IsReadAs}
 use Rattle.netlist_verilog.proofs.FeedLemmas.{names_pass, name_passes}
 use Rattle.netlist_verilog.proofs.WordLemmas.{signal_cases}
 use Rattle.netlist_verilog.proofs.CallingLemmas.{signal_fits}
+use Rattle.netlist_verilog.proofs.KeywordLemmas.{no_keyword}
 
 -- ---- wires are called by identifiers
 
@@ -67,7 +69,10 @@ all_continue [] h = refl
 all_continue (b ∷ bs) h = and_from (continues_identifier b) (list_all continues_identifier bs) (or-true_left (continues_name b) _ h.0) (all_continue bs h.1)
 
 wire_token : (m : ModuleValue) (w : Wire) → IsModule m → IsWireOf m w → IsTokenOf m (name w)
-wire_token m w is own = (own, (let l = letters m w is own in ap is_identifier l.whole ∙ and_from (begins_name l.first) (list_all continues_identifier l.rest) l.begins (all_continue l.rest l.goes_on)))
+wire_token m w is own =
+    let l = letters m w is own in
+    let free : not (is_keyword (l.first ∷ l.rest)) ≡ true = ap not (ap is_keyword (sym l.whole) ∙ no_keyword m w is own) in
+    (own, ap is_identifier l.whole ∙ and_from (begins_name l.first) _ l.begins (and_from (list_all continues_identifier l.rest) _ (all_continue l.rest l.goes_on) free))
 
 -- ---- one token more
 

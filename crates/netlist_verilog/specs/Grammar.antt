@@ -1,9 +1,10 @@
 -- What a text of Verilog is read as: the tokens and the grammar of expressions on single bits (IEEE 1364-2005, clauses 3 and 5.1, and A.8).
-use Rattle.std.specs.Prelude.{◌≡◌, ℕ, Bool, true, false, ◌&&◌, ◌||◌, ◌==◌, List, [], ◌∷◌, ◌++◌, codes}
+use Rattle.std.specs.Prelude.{◌≡◌, ℕ, Bool, true, false, not, ◌&&◌, ◌||◌, ◌==◌, List, [], ◌∷◌, ◌++◌, codes}
 use Rattle.std.specs.List.{AllByRecursion, list_all}
 use Rattle.line_text.specs.Words.{begins_name, continues_name}
 use Rattle.netlist_verilog.specs.Module.{ModuleValue, IsWireOf, called}
 use Rattle.netlist_verilog.specs.Wires.{Wire}
+use Rattle.netlist_verilog.specs.Keywords.{is_keyword}
 use Rattle.netlist_verilog.specs.Formulas.{Formula, Bit, Read, Not, And, Xor, Or}
 
 -- the operators on two bits
@@ -38,10 +39,10 @@ token_text m closing = codes ")"
 abbrev pub continues_identifier : ℕ → Bool
 continues_identifier b = continues_name b || (b == 36)
 
--- a letter or `_`, and then these
+-- a letter or `_` and then these, and no keyword
 abbrev pub is_identifier : List ℕ → Bool
 is_identifier [] = false
-is_identifier (b ∷ bs) = begins_name b && list_all continues_identifier bs
+is_identifier (b ∷ bs) = begins_name b && (list_all continues_identifier bs && not (is_keyword (b ∷ bs)))
 
 -- a name is that of a wire of the module, and an identifier
 abbrev pub IsTokenOf : ModuleValue → Token → Type 0

@@ -4,5 +4,6 @@ pub mod Wires
 pub mod Formulas
 pub mod Equations
 pub mod Rows
+pub mod Keywords
 pub mod Grammar
 pub mod Laws
