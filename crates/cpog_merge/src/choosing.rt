@@ -1,7 +1,7 @@
 //! The classes among the columns. The open columns are laid out in column order, one behind the other, so that each is
 //! compared with those before and behind it. Then each column looks for the first class that serves it.
 
-ghost use Rattle.std.specs.Prelude.{List, ◌≡◌, ◌≢◌, ◌<◌, ◌≤◌, ◌^◌, [], ◌∷◌, ◌++◌, if◌then◌else◌, length, map, IfOk, OnOk};
+ghost use Rattle.std.specs.Prelude.{List, ◌≡◌, ◌<◌, ◌≤◌, ◌^◌, [], ◌∷◌, ◌++◌, if◌then◌else◌, length, map, IfOk, OnOk};
 ghost use Rattle.std.specs.List.{All};
 ghost use Rattle.cpog_defs.specs.Graphs.{IsPlace};
 ghost use Rattle.cpog_defs.specs.declared.types.Ref.{Ref};
@@ -167,7 +167,7 @@ fn pairs_belong(
 }
 
 /// The classes of some columns, and what each column belongs to. Of columns that serve each other the first stands for
-/// all, and a column that others serve and that serves none of these stands for none.
+/// all; a column that another serves, and that does not serve it back, stands for none.
 ///
 /// # Errors
 ///

@@ -1,7 +1,6 @@
 //! The classes of some columns, and what each column belongs to.
 
-ghost use Rattle.std.specs.Prelude.{◌≡◌, ◌≢◌, ◌<◌, ◌≤◌, length, slice_get, Some};
-ghost use Rattle.cpog_defs.specs.declared.types.Place.TheVariants.{Op, Arc};
+ghost use Rattle.std.specs.Prelude.{◌≡◌, ◌<◌, length, slice_get, Some};
 ghost use Rattle.cpog_defs.specs.Graphs.{IsPlace};
 ghost use Rattle.cpog_merge.specs.Classes.{IsClassList, class_column, belongs_at};
 

@@ -14,6 +14,7 @@ mod table;
 
 pub use choosing::classes;
 pub use class_list::{Belongs, ClassList};
+pub use cpog_defs::types::Place;
 pub use filling::merge;
 pub use laws::{
     belongs_to_one, classes_are_one, fits_is_agreeing, fits_is_fitting_scenarios,

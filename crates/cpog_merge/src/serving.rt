@@ -1,7 +1,7 @@
 //! Which columns serve which. A column is compared with another by a few steps on words, so comparing each of some
 //! thousand columns with each other is a fraction of a second.
 
-ghost use Rattle.std.specs.Prelude.{◌≡◌, ◌<◌, ◌≤◌, ◌^◌, ◌+◌, ◌||◌, not, length, slice_index_or};
+ghost use Rattle.std.specs.Prelude.{◌≡◌, ◌<◌, ◌^◌, ◌||◌, not, length};
 ghost use Rattle.std.specs.List.{list_any, list_all};
 ghost use Rattle.cpog_merge.specs.Opens.{is_open as is_open_column, serves as serves_column, is_class_at, first_class, belonging, HasClass};
 

@@ -3,7 +3,6 @@ ghost use Rattle.cpog_defs.specs.Orders.{IsOrderOf};
 
 use super::*;
 use cpog_base::{Memory, OpId, OpSet, Order, empty_sets};
-use cpog_defs::types::Place;
 use std::alloc::Global;
 use std::test::Fail;
 
