@@ -28,7 +28,7 @@ pub map_ones : {X Y : Type 0} (f : X → Y) (d : ℕ → X) (n : ℕ) → map f 
 map_ones f d zero = refl
 map_ones {Y = Y} f d (suc n) = map-append f (each_below (λ k. d k ∷ []) n) (d n ∷ []) ∙ ap (λ (ys : List Y). ys ++ f (d n) ∷ []) (map_ones f d n)
 
-some_push : {X : Type 0} (xs : List X) (x : X) → [] ≡ xs ++ x ∷ [] → ⊥
+pub some_push : {X : Type 0} (xs : List X) (x : X) → [] ≡ xs ++ x ∷ [] → ⊥
 some_push [] x e = cc
 some_push (y ∷ ys) x e = cc
 

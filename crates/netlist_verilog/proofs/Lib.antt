@@ -13,4 +13,5 @@ pub mod OwnLemmas
 pub mod CallingLemmas
 pub mod KeywordLemmas
 pub mod SpellingLemmas
+pub mod LineLemmas
 pub mod ReadingLemmas

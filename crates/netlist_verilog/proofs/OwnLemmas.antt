@@ -11,8 +11,8 @@ use Rattle.gate_core.proofs.GateLemmas.{gate_reads}
 use Rattle.handshake_eqs.specs.Netlists.{Netlist, condition_of, wire_of, waits_of, IsWireOver}
 use Rattle.netlist_verilog.specs.Module.{ModuleValue, IsModule, IsWireOf}
 use Rattle.netlist_verilog.specs.Wires.{Wire, Signal, Acknowledge, Request, Done, Idle, Condition}
-use Rattle.netlist_verilog.specs.Formulas.{Formula, Read, Not, And, ReadsOnly}
-use Rattle.netlist_verilog.specs.Equations.{gate_formula, gate_at, gate_equation, gate_equations, ref_formula, condition_equation, arc_equation, and_each, through_formula, arc_formula, request_equation, equations}
+use Rattle.netlist_verilog.specs.Formulas.{Formula, Read, Not, And, ReadsOnly, NamesOnly}
+use Rattle.netlist_verilog.specs.Equations.{gate_formula, table_formula, reads_both, gate_at, gate_equation, gate_equations, ref_formula, condition_equation, arc_equation, and_each, through_formula, arc_formula, request_equation, equations}
 use Rattle.netlist_verilog.specs.Rows.{signals_from, for_each, input_wires, output_wires, arc_wire, arc_wires_from, arc_wires, inner_wires}
 use Rattle.netlist_verilog.specs.Laws.{IsEquationOf, HasItsWires}
 use Rattle.netlist_verilog.proofs.ValueLemmas.{parts_joined, parts_below, condition_part, arc_part, request_part, end_part}
@@ -50,11 +50,15 @@ each_reads P first passes each (suc n) h hs = chosen (passes n) (each_reads P fi
     chosen true s = (s, hs n (omega arith))
     chosen false s = s
 
+comment_names : (P : Wire → Type 0) (b : Bool) (p q : Wire) → P p → P q → NamesOnly P (cond b None (Some (p, q)))
+comment_names P true p q hp hq = tt
+comment_names P false p q hp hq = (hp, hq)
+
 -- ---- equations
 
 arc_over : (m : ModuleValue) (u v : ℕ) (w : Option Ref) → u < length m.netlist.conditions → v < length m.netlist.conditions → IsWireOver (signal_count m.netlist.gates) w → AllByRecursion (IsEquationOf m) (arc_equation u v w)
 arc_over m u v None hu hv h = tt
-arc_over m u v (Some r) hu hv h = (record { assigned = (hu, hv); read = ref_reads m r h }, tt)
+arc_over m u v (Some r) hu hv h = (record { assigned = (hu, hv); read = ref_reads m r h; named = tt }, tt)
 
 gate_over : (m : ModuleValue) → IsModule m → (g : ℕ) → g < length m.netlist.gates.gates → IsEquationOf m (gate_equation m.netlist.gates.inputs g (gate_at m.netlist.gates g))
 gate_over m is g lt =
@@ -62,22 +66,22 @@ gate_over m is g lt =
     let reads = gate_reads m.netlist.gates.inputs m.netlist.gates.gates g (record { j = 0; k = 0; table = 0 }) is.gates lt in
     let hj : gate.j < signal_count m.netlist.gates = omega (arith, reads.0, reads.1, lt) in
     let hk : gate.k < signal_count m.netlist.gates = omega (arith, reads.1, lt) in
-    record { assigned = omega (arith, lt); read = function_reads (IsWireOf m) (bit gate.table 0) (bit gate.table 1) (bit gate.table 2) (bit gate.table 3) (Signal gate.j) (Signal gate.k) hj hk }
+    record { assigned = omega (arith, lt); read = function_reads (IsWireOf m) (bit gate.table 0) (bit gate.table 1) (bit gate.table 2) (bit gate.table 3) (Signal gate.j) (Signal gate.k) hj hk; named = comment_names (IsWireOf m) (reads_both (table_formula gate.table (Signal gate.j) (Signal gate.k))) (Signal gate.j) (Signal gate.k) hj hk }
 
 request_over : (m : ModuleValue) (v : ℕ) → v < length m.netlist.conditions → IsEquationOf m (request_equation m.netlist v)
-request_over m v lv = record { assigned = lv; read = each_reads (IsWireOf m) _ (set.contains (waits_of m.netlist v)) (arc_formula v) (length m.netlist.conditions) (tt, lv) (λ u lu. ((lu, lu), (lu, lv))) }
+request_over m v lv = record { assigned = lv; read = each_reads (IsWireOf m) _ (set.contains (waits_of m.netlist v)) (arc_formula v) (length m.netlist.conditions) (tt, lv) (λ u lu. ((lu, lu), (lu, lv))); named = tt }
 
 equations_over : (m : ModuleValue) → IsModule m → AllByRecursion (IsEquationOf m) (equations m.netlist)
 equations_over m is =
     let n : Netlist = m.netlist in
     let count : ℕ = length n.conditions in
     parts_joined (IsEquationOf m) (gate_equations n.gates) _ (parts_below (IsEquationOf m) (λ g. gate_equation n.gates.inputs g (gate_at n.gates g) ∷ []) (length n.gates.gates) (λ g lt. (gate_over m is g lt, tt)))
-    (parts_joined (IsEquationOf m) (condition_part n) _ (parts_below (IsEquationOf m) (λ v. condition_equation v (condition_of n v) ∷ []) count (λ v lt. (record { assigned = lt; read = ref_reads m (condition_of n v) (is.netlist.conditions_over v) }, tt)))
+    (parts_joined (IsEquationOf m) (condition_part n) _ (parts_below (IsEquationOf m) (λ v. condition_equation v (condition_of n v) ∷ []) count (λ v lt. (record { assigned = lt; read = ref_reads m (condition_of n v) (is.netlist.conditions_over v); named = tt }, tt)))
     (parts_joined (IsEquationOf m) (arc_part n) _
     (parts_below (IsEquationOf m) (λ u. each_below (λ v. arc_equation u v (wire_of n u v)) count) count (λ u lu. parts_below (IsEquationOf m) (λ v. arc_equation u v (wire_of n u v)) count (λ v lv. arc_over m u v (wire_of n u v) lu lv (is.netlist.wires_over u v))))
     (parts_joined (IsEquationOf m) (request_part n) (end_part n) (parts_below (IsEquationOf m) (λ v. request_equation n v ∷ []) count (λ v lv. (request_over m v lv, tt))) (
-      record { assigned = tt; read = each_reads (IsWireOf m) _ (λ _. true) through_formula count tt (λ v lt. (lt, lt)) },
-      (record { assigned = tt; read = each_reads (IsWireOf m) _ (λ _. true) (λ v. Not (Read (Acknowledge v))) count tt (λ v lt. lt) }, tt),
+      record { assigned = tt; read = each_reads (IsWireOf m) _ (λ _. true) through_formula count tt (λ v lt. (lt, lt)); named = tt },
+      (record { assigned = tt; read = each_reads (IsWireOf m) _ (λ _. true) (λ v. Not (Read (Acknowledge v))) count tt (λ v lt. lt); named = tt }, tt),
     ))))
 
 -- ---- declared wires

@@ -1,12 +1,14 @@
 -- No text is read in two ways: it is these tokens alone, and a stack of what was read tells the formula from them.
-use Rattle.std.proofs.Common.{◌≡◌, ℕ, Bool, true, false, cond, List, [], ◌∷◌, ◌++◌, refl, sym, ap, ap₂, ◌∙◌, arith, append_assoc, subst, Option, None, Some}
-use Rattle.std.proofs.lemmas.List.{append-nil}
+use Rattle.std.proofs.Common.{eqb, ◌≡◌, ℕ, Bool, true, false, cond, List, [], ◌∷◌, ◌++◌, refl, sym, ap, ap₂, ◌∙◌, arith, append_assoc, subst, Option, None, Some}
+use Rattle.std.proofs.lemmas.List.{append-nil, append_cancel_left, append_cancel_right}
+use Rattle.std.specs.Prelude.{codes}
 use Rattle.line_text.specs.Words.{continues_name}
-use Rattle.line_text.proofs.TellingLemmas.{AllPass, apart, heads, tails, words_told, or-true_left}
+use Rattle.line_text.proofs.TellingLemmas.{AllPass, apart, heads, tails, or-true_left}
 use Rattle.netlist_verilog.specs.Module.{ModuleValue, IsModule, IsWireOf, called}
 use Rattle.netlist_verilog.specs.Wires.{Wire}
 use Rattle.netlist_verilog.specs.Formulas.{Formula, Bit, Read, Not, And, Xor, Or}
-use Rattle.netlist_verilog.specs.Grammar.{Operator, and, xor, or, Token, name, bit, tilde, operator, opening, closing, token_text, continues_identifier, IsTokenOf, lengthens, is_blank, AreBlank, NoneFirst, Begins, Spells, Level, primary, unary, row, Expression, named, constant, group, plain, negated, single, joined, tokens, formula, IsReadAs}
+use Rattle.netlist_verilog.specs.Grammar.{Operator, and, xor, or, Token, name, bit, tilde, operator, opening, closing, assign, equals, semicolon, token_text, continues_identifier, IsTokenOf, lengthens, is_identifier, is_blank, NoneFirst, HoldsNoEnd, Gap, nothing, blank, comment, gap_text, IsGap, Begins, Spells, Level, primary, unary, row, Expression, named, constant, group, plain, negated, single, joined, tokens, formula, IsReadAs, IsAssignment}
+use Rattle.netlist_verilog.proofs.BelowLemmas.{cons_parts, some_push}
 use Rattle.netlist_verilog.proofs.CallingLemmas.{wires_told}
 use Rattle.netlist_verilog.proofs.SpellingLemmas.{kind_at, letters}
 
@@ -21,6 +23,9 @@ kind (operator xor) = 94
 kind (operator or) = 124
 kind opening = 40
 kind closing = 41
+kind assign = 0
+kind equals = 61
+kind semicolon = 59
 
 record Head (t : Token) (text : List ℕ) : Type 0 where
   first : ℕ
@@ -28,17 +33,21 @@ record Head (t : Token) (text : List ℕ) : Type 0 where
   whole : text ≡ first ∷ rest
   kind_is : kind_at first ≡ kind t
   is_no_blank : is_blank first ≡ false
+  is_no_slash : eqb first 47 ≡ false
 
 head : (m : ModuleValue) (t : Token) → IsModule m → IsTokenOf m t → Head t (token_text m t)
-head m (name w) is known = let l = letters m w is known.0 in record { first = l.first; rest = l.rest; whole = l.whole; kind_is = l.kind_is; is_no_blank = l.is_no_blank }
-head m (bit false) is known = record { first = 49; rest = 39 ∷ 98 ∷ 48 ∷ []; whole = refl; kind_is = refl; is_no_blank = refl }
-head m (bit true) is known = record { first = 49; rest = 39 ∷ 98 ∷ 49 ∷ []; whole = refl; kind_is = refl; is_no_blank = refl }
-head m tilde is known = record { first = 126; rest = []; whole = refl; kind_is = refl; is_no_blank = refl }
-head m (operator and) is known = record { first = 38; rest = []; whole = refl; kind_is = refl; is_no_blank = refl }
-head m (operator xor) is known = record { first = 94; rest = []; whole = refl; kind_is = refl; is_no_blank = refl }
-head m (operator or) is known = record { first = 124; rest = []; whole = refl; kind_is = refl; is_no_blank = refl }
-head m opening is known = record { first = 40; rest = []; whole = refl; kind_is = refl; is_no_blank = refl }
-head m closing is known = record { first = 41; rest = []; whole = refl; kind_is = refl; is_no_blank = refl }
+head m (name w) is known = let l = letters m w is known.0 in record { first = l.first; rest = l.rest; whole = l.whole; kind_is = l.kind_is; is_no_blank = l.is_no_blank; is_no_slash = l.is_no_slash }
+head m (bit false) is known = record { first = 49; rest = 39 ∷ 98 ∷ 48 ∷ []; whole = refl; kind_is = refl; is_no_blank = refl; is_no_slash = refl }
+head m (bit true) is known = record { first = 49; rest = 39 ∷ 98 ∷ 49 ∷ []; whole = refl; kind_is = refl; is_no_blank = refl; is_no_slash = refl }
+head m tilde is known = record { first = 126; rest = []; whole = refl; kind_is = refl; is_no_blank = refl; is_no_slash = refl }
+head m (operator and) is known = record { first = 38; rest = []; whole = refl; kind_is = refl; is_no_blank = refl; is_no_slash = refl }
+head m (operator xor) is known = record { first = 94; rest = []; whole = refl; kind_is = refl; is_no_blank = refl; is_no_slash = refl }
+head m (operator or) is known = record { first = 124; rest = []; whole = refl; kind_is = refl; is_no_blank = refl; is_no_slash = refl }
+head m opening is known = record { first = 40; rest = []; whole = refl; kind_is = refl; is_no_blank = refl; is_no_slash = refl }
+head m closing is known = record { first = 41; rest = []; whole = refl; kind_is = refl; is_no_blank = refl; is_no_slash = refl }
+head m assign is known = record { first = 97; rest = codes "ssign"; whole = refl; kind_is = refl; is_no_blank = refl; is_no_slash = refl }
+head m equals is known = record { first = 61; rest = []; whole = refl; kind_is = refl; is_no_blank = refl; is_no_slash = refl }
+head m semicolon is known = record { first = 59; rest = []; whole = refl; kind_is = refl; is_no_blank = refl; is_no_slash = refl }
 
 -- words as long as they can be
 words_alike : (p : ℕ → Bool) (v w x y : List ℕ) → AllPass p v → AllPass p w → NoneFirst p x → NoneFirst p y → v ++ x ≡ w ++ y → (v ≡ w) × (x ≡ y)
@@ -56,6 +65,13 @@ identifier_bytes (b ∷ bs) h = (or-true_left (continues_name b) _ h.0, identifi
 called_bytes : (m : ModuleValue) (w : Wire) → IsModule m → IsWireOf m w → AllPass continues_identifier (called m w)
 called_bytes m w is own = let l = letters m w is own in subst (AllPass continues_identifier) (sym l.whole) (identifier_bytes (l.first ∷ l.rest) (or-true_left _ _ l.begins, l.goes_on))
 
+assign_bytes : AllPass continues_identifier (codes "assign")
+assign_bytes = (refl, (refl, (refl, (refl, (refl, (refl, tt))))))
+
+-- no name is the word assign
+no_assign : (m : ModuleValue) (w : Wire) → IsModule m → IsTokenOf m (name w) → called m w ≡ codes "assign" → ⊥
+no_assign m w is known e = let t : false ≡ true = ap is_identifier (sym e) ∙ known.1 in cc
+
 -- two tokens of one kind, each as long as it can be
 of_one_kind : (m : ModuleValue) (t u : Token) (x y : List ℕ) → IsModule m → IsTokenOf m t → IsTokenOf m u → NoneFirst (lengthens t) x → NoneFirst (lengthens u) y → kind t ≡ kind u → token_text m t ++ x ≡ token_text m u ++ y → (t ≡ u) × (x ≡ y)
 of_one_kind m (name w) (name z) x y is kt ku hx hy k e =
@@ -71,6 +87,11 @@ of_one_kind m (operator xor) (operator xor) x y is kt ku hx hy k e = (refl, tail
 of_one_kind m (operator or) (operator or) x y is kt ku hx hy k e = (refl, tails 124 124 _ _ e)
 of_one_kind m opening opening x y is kt ku hx hy k e = (refl, tails 40 40 _ _ e)
 of_one_kind m closing closing x y is kt ku hx hy k e = (refl, tails 41 41 _ _ e)
+of_one_kind m assign assign x y is kt ku hx hy k e = (refl, append_cancel_left (codes "assign") x y e)
+of_one_kind m equals equals x y is kt ku hx hy k e = (refl, tails 61 61 _ _ e)
+of_one_kind m semicolon semicolon x y is kt ku hx hy k e = (refl, tails 59 59 _ _ e)
+of_one_kind m (name w) assign x y is kt ku hx hy k e = absurd (no_assign m w is kt (words_alike continues_identifier (called m w) (codes "assign") x y (called_bytes m w is kt.0) assign_bytes hx hy e).0)
+of_one_kind m assign (name z) x y is kt ku hx hy k e = absurd (no_assign m z is ku (words_alike continues_identifier (called m z) (codes "assign") y x (called_bytes m z is ku.0) assign_bytes hy hx (sym e)).0)
 of_one_kind m t (operator and) x y is kt ku hx hy k e = absurd (omega (arith, k))
 of_one_kind m t (operator xor) x y is kt ku hx hy k e = absurd (omega (arith, k))
 of_one_kind m t (operator or) x y is kt ku hx hy k e = absurd (omega (arith, k))
@@ -79,6 +100,34 @@ of_one_kind m (operator xor) u x y is kt ku hx hy k e = absurd (omega (arith, k)
 of_one_kind m (operator or) u x y is kt ku hx hy k e = absurd (omega (arith, k))
 of_one_kind m t u x y is kt ku hx hy k e = absurd (omega (arith, k))
 
+-- ---- gaps
+
+slash_apart : (b : ℕ) → eqb b 47 ≡ false → b ≡ 47 → ⊥
+slash_apart b h e = apart (eqb 47 47) (eqb b 47) refl h (ap (λ c. eqb c 47) (sym e))
+
+-- a comment goes up to the first `*/`
+comments_alike : (v w x y : List ℕ) → HoldsNoEnd v → HoldsNoEnd w → v ++ 42 ∷ 47 ∷ x ≡ w ++ 42 ∷ 47 ∷ y → x ≡ y
+comments_alike [] [] x y hv hw e = tails 47 47 _ _ (tails 42 42 _ _ e)
+comments_alike [] (c ∷ []) x y hv hw e = absurd (omega (arith, heads 47 42 _ _ (tails 42 c _ _ e)))
+comments_alike [] (c ∷ d ∷ w) x y hv hw e = absurd (slash_apart d (hw.0 (sym (heads 42 c _ _ e))) (sym (heads 47 d _ _ (tails 42 c _ _ e))))
+comments_alike (c ∷ []) [] x y hv hw e = absurd (omega (arith, heads 42 47 _ _ (tails c 42 _ _ e)))
+comments_alike (c ∷ d ∷ v) [] x y hv hw e = absurd (slash_apart d (hv.0 (heads c 42 _ _ e)) (heads d 47 _ _ (tails c 42 _ _ e)))
+comments_alike (b ∷ v) (c ∷ w) x y hv hw e = comments_alike v w x y hv.1 hw.1 (tails b c _ _ e)
+
+-- a token ends a gap
+same_gap : (g h : Gap) (b c : ℕ) (x y : List ℕ) → IsGap g → IsGap h → is_blank b ≡ false → is_blank c ≡ false → eqb b 47 ≡ false → eqb c 47 ≡ false → gap_text g ++ b ∷ x ≡ gap_text h ++ c ∷ y → (b ∷ x) ≡ (c ∷ y)
+same_gap nothing nothing b c x y hg hh nb nc sb sc e = e
+same_gap nothing (blank d h) b c x y hg hh nb nc sb sc e = absurd (apart (is_blank d) (is_blank b) hh.0 nb (ap is_blank (sym (heads b d _ _ e))))
+same_gap nothing (comment w h) b c x y hg hh nb nc sb sc e = absurd (slash_apart b sb (heads b 47 _ _ e))
+same_gap (blank d g) nothing b c x y hg hh nb nc sb sc e = absurd (apart (is_blank d) (is_blank c) hg.0 nc (ap is_blank (heads d c _ _ e)))
+same_gap (blank d g) (blank d' h) b c x y hg hh nb nc sb sc e = same_gap g h b c x y hg.1 hh.1 nb nc sb sc (tails d d' _ _ e)
+same_gap (blank d g) (comment w h) b c x y hg hh nb nc sb sc e = absurd (apart (is_blank d) (is_blank 47) hg.0 refl (ap is_blank (heads d 47 _ _ e)))
+same_gap (comment v g) nothing b c x y hg hh nb nc sb sc e = absurd (slash_apart c sc (sym (heads 47 c _ _ e)))
+same_gap (comment v g) (blank d h) b c x y hg hh nb nc sb sc e = absurd (apart (is_blank d) (is_blank 47) hh.0 refl (ap is_blank (sym (heads 47 d _ _ e))))
+same_gap (comment v g) (comment w h) b c x y hg hh nb nc sb sc e =
+    let inner = sym (append_assoc v (42 ∷ 47 ∷ gap_text g) (b ∷ x)) ∙ tails 42 42 _ _ (tails 47 47 _ _ e) ∙ append_assoc w (42 ∷ 47 ∷ gap_text h) (c ∷ y) in
+    same_gap g h b c x y hg.1 hh.1 nb nc sb sc (comments_alike v w (gap_text g ++ b ∷ x) (gap_text h ++ c ∷ y) hg.0 hh.0 inner)
+
 -- a text begins with one token at most
 same_token : (m : ModuleValue) (t u : Token) (text x y : List ℕ) → IsModule m → Begins m t text x → Begins m u text y → (t ≡ u) × (x ≡ y)
 same_token m t u text x y is h k =
@@ -86,25 +135,23 @@ same_token m t u text x y is h k =
     let b = head m u is k.known in
     let ta : token_text m t ++ x ≡ a.first ∷ (a.rest ++ x) = ap (λ (w : List ℕ). w ++ x) a.whole in
     let tb : token_text m u ++ y ≡ b.first ∷ (b.rest ++ y) = ap (λ (w : List ℕ). w ++ y) b.whole in
-    let r = words_told is_blank h.blanks k.blanks a.first b.first (a.rest ++ x) (b.rest ++ y) h.blank k.blank a.is_no_blank b.is_no_blank
-    (ap (λ (z : List ℕ). h.blanks ++ z) (sym ta) ∙ sym h.whole ∙ k.whole ∙ ap (λ (z : List ℕ). k.blanks ++ z) tb) in
-    of_one_kind m t u x y is h.known k.known h.ends k.ends (sym a.kind_is ∙ ap kind_at (heads a.first b.first _ _ r.1) ∙ b.kind_is) (ta ∙ r.1 ∙ sym tb)
+    let r = same_gap h.gap k.gap a.first b.first (a.rest ++ x) (b.rest ++ y) h.is_gap k.is_gap a.is_no_blank b.is_no_blank a.is_no_slash b.is_no_slash
+    (ap (λ (z : List ℕ). gap_text h.gap ++ z) (sym ta) ∙ sym h.whole ∙ k.whole ∙ ap (λ (z : List ℕ). gap_text k.gap ++ z) tb) in
+    of_one_kind m t u x y is h.known k.known h.ends k.ends (sym a.kind_is ∙ ap kind_at (heads a.first b.first _ _ r) ∙ b.kind_is) (ta ∙ r ∙ sym tb)
 
--- blanks begin with no token
-no_token : (p : ℕ → Bool) (bs cs : List ℕ) (b : ℕ) (x : List ℕ) → AllPass p bs → AllPass p cs → p b ≡ false → bs ≡ cs ++ b ∷ x → ⊥
-no_token p [] [] b x hb hc h e = cc
-no_token p [] (c ∷ cs) b x hb hc h e = cc
-no_token p (d ∷ bs) [] b x hb hc h e = apart (p d) (p b) hb.0 h (ap p (heads d b _ _ e))
-no_token p (d ∷ bs) (c ∷ cs) b x hb hc h e = no_token p bs cs b x hb.1 hc.1 h (tails d c _ _ e)
-
-blanks_alone : (m : ModuleValue) (t : Token) (text x : List ℕ) → IsModule m → AreBlank text → Begins m t text x → ⊥
-blanks_alone m t text x is blank h = let a = head m t is h.known in no_token is_blank text h.blanks a.first (a.rest ++ x) blank h.blank a.is_no_blank (h.whole ∙ ap (λ (w : List ℕ). h.blanks ++ (w ++ x)) a.whole)
+-- a gap holds no token
+gap_alone : (m : ModuleValue) (t : Token) (text x : List ℕ) (g : Gap) → IsModule m → IsGap g → text ≡ gap_text g → Begins m t text x → ⊥
+gap_alone m t text x g is hg e h =
+    let a = head m t is h.known in
+    let both : gap_text g ++ 59 ∷ [] ≡ gap_text h.gap ++ a.first ∷ ((a.rest ++ x) ++ 59 ∷ []) =
+    ap (λ (z : List ℕ). z ++ 59 ∷ []) (sym e ∙ h.whole ∙ ap (λ (w : List ℕ). gap_text h.gap ++ (w ++ x)) a.whole) ∙ append_assoc (gap_text h.gap) (a.first ∷ (a.rest ++ x)) (59 ∷ []) in
+    some_push (a.rest ++ x) 59 (tails 59 a.first _ _ (same_gap g h.gap 59 a.first [] ((a.rest ++ x) ++ 59 ∷ []) hg h.is_gap refl a.is_no_blank refl a.is_no_slash both))
 
 -- a text is these tokens or those, not both
 same_tokens : (m : ModuleValue) (ts us : List Token) (text : List ℕ) → IsModule m → Spells m ts text → Spells m us text → ts ≡ us
 same_tokens m [] [] text is s r = refl
-same_tokens m [] (u ∷ us) text is s r = absurd (blanks_alone m u text r.0 is s r.1)
-same_tokens m (t ∷ ts) [] text is s r = absurd (blanks_alone m t text s.0 is r s.1)
+same_tokens m [] (u ∷ us) text is s r = absurd (gap_alone m u text r.0 s.0 is s.1 s.2 r.1)
+same_tokens m (t ∷ ts) [] text is s r = absurd (gap_alone m t text s.0 r.0 is r.1 r.2 s.1)
 same_tokens m (t ∷ ts) (u ∷ us) text is s r =
     let e = same_token m t u text s.0 r.0 is s.1 r.1 in
     ap₂ (λ (z : Token) (zs : List Token). z ∷ zs) e.0 (same_tokens m ts us r.0 is (subst (Spells m ts) e.1 s.2) r.2)
@@ -152,6 +199,9 @@ run (operator or ∷ ts) r rs = run ts (frame (Some (or_of r)) None None false) 
 run (opening ∷ ts) r rs = run ts empty (r ∷ rs)
 run (closing ∷ ts) r [] = or_of r
 run (closing ∷ ts) r (q ∷ rs) = run ts (with_primary (or_of r) q) rs
+run (assign ∷ ts) r rs = or_of r
+run (equals ∷ ts) r rs = or_of r
+run (semicolon ∷ ts) r rs = or_of r
 
 -- what the tokens of an expression do, whatever comes behind them
 abbrev Runs : (l : Level) → List Token → Formula → Type 0
@@ -191,3 +241,13 @@ told e = let h = runs e [] [] in ap (λ (zs : List Token). run zs empty []) (sym
 
 pub read_once : (m : ModuleValue) (text : List ℕ) (f g : Formula) → IsModule m → IsReadAs m text f → IsReadAs m text g → f ≡ g
 read_once m text f g is a b = sym a.2 ∙ sym (told a.0) ∙ ap (λ (zs : List Token). run zs empty []) (same_tokens m (tokens a.0) (tokens b.0) text is a.1 b.1) ∙ told b.0 ∙ b.2
+
+first_is : (w z : Wire) → name w ≡ name z → w ≡ z
+first_is w z e = cc
+
+pub assigned_once : (m : ModuleValue) (text : List ℕ) (w z : Wire) (f g : Formula) → IsModule m → IsAssignment m text w f → IsAssignment m text z g → (w ≡ z) × (f ≡ g)
+assigned_once m text w z f g is a b =
+    let t = (cons_parts assign assign _ _ (same_tokens m _ _ text is a.1 b.1)).1 in
+    let u = cons_parts (name w) (name z) _ _ t in
+    let v = (cons_parts equals equals _ _ u.1).1 in
+    (first_is w z u.0, sym a.2 ∙ sym (told a.0) ∙ ap (λ (zs : List Token). run zs empty []) (append_cancel_right (tokens a.0) (tokens b.0) (semicolon ∷ []) v) ∙ told b.0 ∙ b.2)

@@ -11,7 +11,7 @@ use Rattle.netlist_verilog.specs.Module.{ModuleValue, IsModule, IsWireOf, called
 use Rattle.netlist_verilog.specs.Wires.{Wire, Signal, Go, Acknowledge, Request, Done, Idle, Condition, ArcCondition, name_of}
 use Rattle.netlist_verilog.specs.Formulas.{Formula, Bit, Read, Not, And, Xor, Or, ReadsOnly, tightness, grouped, formula_text}
 use Rattle.netlist_verilog.specs.Keywords.{is_keyword}
-use Rattle.netlist_verilog.specs.Grammar.{Operator, and, xor, or, Token, name, bit, tilde, operator, opening, closing, token_text, continues_identifier, is_identifier, IsTokenOf, lengthens, is_blank, NoneFirst, Spells, Level, primary, unary, row, Expression, named, constant, group, plain, negated, single, joined, tokens, formula, IsReadAs}
+use Rattle.netlist_verilog.specs.Grammar.{Operator, and, xor, or, Token, name, bit, tilde, operator, opening, closing, assign, equals, semicolon, token_text, continues_identifier, is_identifier, IsTokenOf, lengthens, is_blank, NoneFirst, Spells, Level, primary, unary, row, Expression, named, constant, group, plain, negated, single, joined, tokens, formula, IsReadAs, HoldsNoEnd, nothing, blank, comment, gap_text}
 use Rattle.netlist_verilog.proofs.FeedLemmas.{names_pass, name_passes}
 use Rattle.netlist_verilog.proofs.WordLemmas.{signal_cases}
 use Rattle.netlist_verilog.proofs.CallingLemmas.{signal_fits}
@@ -20,7 +20,7 @@ use Rattle.netlist_verilog.proofs.KeywordLemmas.{no_keyword}
 -- ---- wires are called by identifiers
 
 abbrev is_sign : ℕ → Bool
-is_sign b = eqb b 49 || (eqb b 126 || (eqb b 38 || (eqb b 94 || (eqb b 124 || (eqb b 40 || eqb b 41)))))
+is_sign b = eqb b 49 || (eqb b 126 || (eqb b 38 || (eqb b 94 || (eqb b 124 || (eqb b 40 || (eqb b 41 || (eqb b 61 || eqb b 59)))))))
 
 -- letters begin a name, and each other byte a token of its own
 abbrev pub kind_at : ℕ → ℕ
@@ -37,21 +37,22 @@ pub record Letters (text : List ℕ) : Type 0 where
   pub not_after_opening : lengthens opening first ≡ false
   pub kind_is : kind_at first ≡ 0
   pub is_no_blank : is_blank first ≡ false
+  pub is_no_slash : eqb first 47 ≡ false
 
-name_letters : (m : ModuleValue) (v b : ℕ) → IsModule m → begins_name b ≡ true → lengthens tilde b ≡ false → lengthens opening b ≡ false → kind_at b ≡ 0 → is_blank b ≡ false → Letters (b ∷ 95 ∷ name_of m.names v)
-name_letters m v b is begins tilde' opening' kind' blank' = record { first = b; rest = 95 ∷ name_of m.names v; whole = refl; begins = begins; goes_on = (refl, name_passes m.names v (names_pass m.names is.names)); not_after_tilde = tilde'; not_after_opening = opening'; kind_is = kind'; is_no_blank = blank' }
+name_letters : (m : ModuleValue) (v b : ℕ) → IsModule m → begins_name b ≡ true → lengthens tilde b ≡ false → lengthens opening b ≡ false → kind_at b ≡ 0 → is_blank b ≡ false → eqb b 47 ≡ false → Letters (b ∷ 95 ∷ name_of m.names v)
+name_letters m v b is begins tilde' opening' kind' blank' slash' = record { first = b; rest = 95 ∷ name_of m.names v; whole = refl; begins = begins; goes_on = (refl, name_passes m.names v (names_pass m.names is.names)); not_after_tilde = tilde'; not_after_opening = opening'; kind_is = kind'; is_no_blank = blank'; is_no_slash = slash' }
 
 pub letters : (m : ModuleValue) (w : Wire) → IsModule m → IsWireOf m w → Letters (called m w)
 letters m (Signal n) is lt = elim (signal_cases m.netlist.gates.inputs n) [
-  | inl h ↦ record { first = 120; rest = decimal n; whole = h.1; begins = refl; goes_on = decimal_continues n (signal_fits m n is lt); not_after_tilde = refl; not_after_opening = refl; kind_is = refl; is_no_blank = refl }
-  | inr h ↦ record { first = 103; rest = decimal (n - m.netlist.gates.inputs); whole = h.1; begins = refl; goes_on = decimal_continues (n - m.netlist.gates.inputs) (let fits = signal_fits m n is lt in omega (arith, fits)); not_after_tilde = refl; not_after_opening = refl; kind_is = refl; is_no_blank = refl }
+  | inl h ↦ record { first = 120; rest = decimal n; whole = h.1; begins = refl; goes_on = decimal_continues n (signal_fits m n is lt); not_after_tilde = refl; not_after_opening = refl; kind_is = refl; is_no_blank = refl; is_no_slash = refl }
+  | inr h ↦ record { first = 103; rest = decimal (n - m.netlist.gates.inputs); whole = h.1; begins = refl; goes_on = decimal_continues (n - m.netlist.gates.inputs) (let fits = signal_fits m n is lt in omega (arith, fits)); not_after_tilde = refl; not_after_opening = refl; kind_is = refl; is_no_blank = refl; is_no_slash = refl }
 ]
-letters m Go is lt = record { first = 103; rest = codes "o"; whole = refl; begins = refl; goes_on = (refl, tt); not_after_tilde = refl; not_after_opening = refl; kind_is = refl; is_no_blank = refl }
-letters m (Acknowledge v) is lt = name_letters m v 97 is refl refl refl refl refl
-letters m (Request v) is lt = name_letters m v 114 is refl refl refl refl refl
-letters m Done is lt = record { first = 100; rest = codes "one"; whole = refl; begins = refl; goes_on = (refl, (refl, (refl, tt))); not_after_tilde = refl; not_after_opening = refl; kind_is = refl; is_no_blank = refl }
-letters m Idle is lt = record { first = 105; rest = codes "dle"; whole = refl; begins = refl; goes_on = (refl, (refl, (refl, tt))); not_after_tilde = refl; not_after_opening = refl; kind_is = refl; is_no_blank = refl }
-letters m (Condition v) is lt = name_letters m v 99 is refl refl refl refl refl
+letters m Go is lt = record { first = 103; rest = codes "o"; whole = refl; begins = refl; goes_on = (refl, tt); not_after_tilde = refl; not_after_opening = refl; kind_is = refl; is_no_blank = refl; is_no_slash = refl }
+letters m (Acknowledge v) is lt = name_letters m v 97 is refl refl refl refl refl refl
+letters m (Request v) is lt = name_letters m v 114 is refl refl refl refl refl refl
+letters m Done is lt = record { first = 100; rest = codes "one"; whole = refl; begins = refl; goes_on = (refl, (refl, (refl, tt))); not_after_tilde = refl; not_after_opening = refl; kind_is = refl; is_no_blank = refl; is_no_slash = refl }
+letters m Idle is lt = record { first = 105; rest = codes "dle"; whole = refl; begins = refl; goes_on = (refl, (refl, (refl, tt))); not_after_tilde = refl; not_after_opening = refl; kind_is = refl; is_no_blank = refl; is_no_slash = refl }
+letters m (Condition v) is lt = name_letters m v 99 is refl refl refl refl refl refl
 letters m (ArcCondition u v) is lt = record {
   first = 101;
   rest = decimal u ++ (codes "_" ++ decimal v);
@@ -62,13 +63,14 @@ letters m (ArcCondition u v) is lt = record {
   not_after_opening = refl;
   kind_is = refl;
   is_no_blank = refl;
+  is_no_slash = refl;
 }
 
 all_continue : (w : List ℕ) → AllPass continues_name w → list_all continues_identifier w ≡ true
 all_continue [] h = refl
 all_continue (b ∷ bs) h = and_from (continues_identifier b) (list_all continues_identifier bs) (or-true_left (continues_name b) _ h.0) (all_continue bs h.1)
 
-wire_token : (m : ModuleValue) (w : Wire) → IsModule m → IsWireOf m w → IsTokenOf m (name w)
+pub wire_token : (m : ModuleValue) (w : Wire) → IsModule m → IsWireOf m w → IsTokenOf m (name w)
 wire_token m w is own =
     let l = letters m w is own in
     let free : not (is_keyword (l.first ∷ l.rest)) ≡ true = ap not (ap is_keyword (sym l.whole) ∙ no_keyword m w is own) in
@@ -77,10 +79,10 @@ wire_token m w is own =
 -- ---- one token more
 
 -- no token goes on in these bytes
-abbrev Ends : List ℕ → Type 0
+abbrev pub Ends : List ℕ → Type 0
 Ends rest = (t : Token) → NoneFirst (lengthens t) rest
 
-blank_ends : (r : List ℕ) → Ends (32 ∷ r)
+pub blank_ends : (r : List ℕ) → Ends (32 ∷ r)
 blank_ends r (name w) = refl
 blank_ends r (bit b) = refl
 blank_ends r tilde = refl
@@ -89,6 +91,9 @@ blank_ends r (operator xor) = refl
 blank_ends r (operator or) = refl
 blank_ends r opening = refl
 blank_ends r closing = refl
+blank_ends r assign = refl
+blank_ends r equals = refl
+blank_ends r semicolon = refl
 
 closing_ends : (r : List ℕ) → Ends (41 ∷ r)
 closing_ends r (name w) = refl
@@ -99,21 +104,41 @@ closing_ends r (operator xor) = refl
 closing_ends r (operator or) = refl
 closing_ends r opening = refl
 closing_ends r closing = refl
+closing_ends r assign = refl
+closing_ends r equals = refl
+closing_ends r semicolon = refl
 
-after_blank : (m : ModuleValue) (ts : List Token) (text : List ℕ) → Spells m ts text → Spells m ts (32 ∷ text)
-after_blank m [] text s = (refl, s)
-after_blank m (t ∷ ts) text s = (s.0, record { known = s.1.known; blanks = 32 ∷ s.1.blanks; blank = (refl, s.1.blank); whole = ap (λ (x : List ℕ). 32 ∷ x) s.1.whole; ends = s.1.ends }, s.2)
+pub semicolon_ends : (r : List ℕ) → Ends (59 ∷ r)
+semicolon_ends r (name w) = refl
+semicolon_ends r (bit b) = refl
+semicolon_ends r tilde = refl
+semicolon_ends r (operator and) = refl
+semicolon_ends r (operator xor) = refl
+semicolon_ends r (operator or) = refl
+semicolon_ends r opening = refl
+semicolon_ends r closing = refl
+semicolon_ends r assign = refl
+semicolon_ends r equals = refl
+semicolon_ends r semicolon = refl
 
-before : (m : ModuleValue) (t : Token) (ts : List Token) (rest : List ℕ) → IsTokenOf m t → NoneFirst (lengthens t) rest → Spells m ts rest → Spells m (t ∷ ts) (token_text m t ++ rest)
-before m t ts rest known ends s = (rest, record { known = known; blanks = []; blank = tt; whole = refl; ends = ends }, s)
+pub after_blank : (m : ModuleValue) (ts : List Token) (text : List ℕ) → Spells m ts text → Spells m ts (32 ∷ text)
+after_blank m [] text s = (blank 32 s.0, (refl, s.1), ap (λ (x : List ℕ). 32 ∷ x) s.2)
+after_blank m (t ∷ ts) text s = (s.0, record { known = s.1.known; gap = blank 32 s.1.gap; is_gap = (refl, s.1.is_gap); whole = ap (λ (x : List ℕ). 32 ∷ x) s.1.whole; ends = s.1.ends }, s.2)
+
+pub after_comment : (m : ModuleValue) (bytes : List ℕ) (ts : List Token) (text : List ℕ) → HoldsNoEnd bytes → Spells m ts text → Spells m ts (47 ∷ 42 ∷ (bytes ++ 42 ∷ 47 ∷ text))
+after_comment m bytes [] text h s = (comment bytes s.0, (h, s.1), ap (λ (x : List ℕ). 47 ∷ 42 ∷ (bytes ++ 42 ∷ 47 ∷ x)) s.2)
+after_comment m bytes (t ∷ ts) text h s = (s.0, record { known = s.1.known; gap = comment bytes s.1.gap; is_gap = (h, s.1.is_gap); whole = ap (λ (x : List ℕ). 47 ∷ 42 ∷ (bytes ++ 42 ∷ 47 ∷ x)) s.1.whole ∙ ap (λ (x : List ℕ). 47 ∷ 42 ∷ x) (sym (append_assoc bytes (42 ∷ 47 ∷ gap_text s.1.gap) _)); ends = s.1.ends }, s.2)
+
+pub before : (m : ModuleValue) (t : Token) (ts : List Token) (rest : List ℕ) → IsTokenOf m t → NoneFirst (lengthens t) rest → Spells m ts rest → Spells m (t ∷ ts) (token_text m t ++ rest)
+before m t ts rest known ends s = (rest, record { known = known; gap = nothing; is_gap = tt; whole = refl; ends = ends }, s)
 
 -- the text is these tokens, before whatever no token goes on in
-abbrev Carries : ModuleValue → List Token → List ℕ → Type 0
+abbrev pub Carries : ModuleValue → List Token → List ℕ → Type 0
 Carries m xs text = (ts : List Token) (rest : List ℕ) → Ends rest → Spells m ts rest → Spells m (xs ++ ts) (text ++ rest)
 
 -- ---- the text of a formula
 
-abbrev text : ModuleValue → Formula → List ℕ
+abbrev pub text : ModuleValue → Formula → List ℕ
 text m f = formula_text m.netlist.gates.inputs m.names f
 
 -- the first byte of a group
@@ -148,7 +173,7 @@ primary_first m (Or f g) rest is own = refl
 
 -- ---- the expression of a formula
 
-abbrev top : (l : Level) → Expression l → Expression (row or)
+abbrev pub top : (l : Level) → Expression l → Expression (row or)
 top primary e = single or (single xor (single and (plain e)))
 top unary e = single or (single xor (single and e))
 top (row and) e = single or (single xor e)
@@ -217,7 +242,7 @@ fits (row or) (row and) e = record { spelled = refl; same = refl }
 fits (row or) (row xor) e = record { spelled = refl; same = refl }
 fits (row or) (row or) e = record { spelled = refl; same = refl }
 
-abbrev level : Formula → Level
+abbrev pub level : Formula → Level
 level (Bit b) = primary
 level (Read w) = primary
 level (Not f) = unary
@@ -233,7 +258,7 @@ level_rank (And f g) = refl
 level_rank (Xor f g) = refl
 level_rank (Or f g) = refl
 
-abbrev expression : (f : Formula) → Expression (level f)
+abbrev pub expression : (f : Formula) → Expression (level f)
 expression (Bit b) = constant b
 expression (Read w) = named w
 expression (Not f) = negated (fit primary (level f) (expression f))
@@ -274,7 +299,7 @@ between m o xs ys x y hx hy ts rest ends s =
     subst (λ (zs : List Token). Spells m zs ((x ++ (32 ∷ (token_text m (operator o) ++ (32 ∷ y)))) ++ rest)) (sym (append_assoc xs (operator o ∷ ys) ts))
     (subst (λ (z : List ℕ). Spells m (xs ++ operator o ∷ (ys ++ ts)) z) (ap (λ (z : List ℕ). x ++ 32 ∷ z) (sym (append_assoc (token_text m (operator o)) (32 ∷ y) rest)) ∙ sym (append_assoc x _ rest)) left)
 
-spelled : (m : ModuleValue) (f : Formula) → IsModule m → ReadsOnly (IsWireOf m) f → Carries m (tokens (expression f)) (text m f)
+pub spelled : (m : ModuleValue) (f : Formula) → IsModule m → ReadsOnly (IsWireOf m) f → Carries m (tokens (expression f)) (text m f)
 spelled m (Bit false) is own = λ ts rest ends s. before m (bit false) ts rest tt (ends (bit false)) s
 spelled m (Bit true) is own = λ ts rest ends s. before m (bit true) ts rest tt (ends (bit true)) s
 spelled m (Read w) is own = λ ts rest ends s. before m (name w) ts rest (wire_token m w is own) (ends (name w)) s
@@ -290,15 +315,20 @@ spelled m (Or f g) is own = between m or _ _ _ _ (alone (level f) (expression f)
     alone (row xor) e h = h
     alone (row or) e h = h
 
+-- an expression of a formula, as one may stand alone
+pub topped : (l : Level) (e : Expression l) → tokens (top l e) ≡ tokens e
+topped primary e = refl
+topped unary e = refl
+topped (row and) e = refl
+topped (row xor) e = refl
+topped (row or) e = refl
+
+pub whole_formula : (f : Formula) → formula (top (level f) (expression f)) ≡ f
+whole_formula f = (fits (row or) (level f) (expression f)).same ∙ formula_again f
+
 pub read_as_written : (m : ModuleValue) (f : Formula) → IsModule m → ReadsOnly (IsWireOf m) f → IsReadAs m (text m f) f
 read_as_written m f is own =
     let all : Spells m (tokens (expression f)) (text m f) =
-    subst (λ (ts : List Token). Spells m ts (text m f)) (append-nil (tokens (expression f))) (subst (λ (x : List ℕ). Spells m (tokens (expression f) ++ []) x) (append-nil (text m f)) (spelled m f is own [] [] (λ t. tt) tt)) in
-    (top (level f) (expression f), topped (level f) (expression f) (text m f) all, (fits (row or) (level f) (expression f)).same ∙ formula_again f)
-  where
-    topped : (l : Level) (e : Expression l) (x : List ℕ) → Spells m (tokens e) x → Spells m (tokens (top l e)) x
-    topped primary e x h = h
-    topped unary e x h = h
-    topped (row and) e x h = h
-    topped (row xor) e x h = h
-    topped (row or) e x h = h
+    subst (λ (ts : List Token). Spells m ts (text m f)) (append-nil (tokens (expression f)))
+    (subst (λ (x : List ℕ). Spells m (tokens (expression f) ++ []) x) (append-nil (text m f)) (spelled m f is own [] [] (λ t. tt) (nothing, tt, refl))) in
+    (top (level f) (expression f), subst (λ (ts : List Token). Spells m ts (text m f)) (sym (topped (level f) (expression f))) all, whole_formula f)

@@ -57,6 +57,11 @@ pub record Equation : Type 0 where
   pub formula : Formula
   pub comment : Option (Wire × Wire)
 
+-- each wire that the comment names is one of these
+abbrev pub NamesOnly : (Wire → Type 0) → Option (Wire × Wire) → Type 0
+NamesOnly P None = Unit {0}
+NamesOnly P (Some both) = P both.0 × P both.1
+
 abbrev pub comment_text : ℕ → List (List ℕ) → Option (Wire × Wire) → List ℕ
 comment_text inputs names None = []
 comment_text inputs names (Some both) = codes " /* " ++ (wire_text inputs names both.0 ++ (codes " " ++ (wire_text inputs names both.1 ++ codes " */")))

@@ -1,6 +1,6 @@
--- What a text of Verilog is read as: the tokens and the grammar of expressions on single bits (IEEE 1364-2005, clauses 3 and 5.1, and A.8).
+-- What a text of Verilog is read as: the tokens, the grammar of expressions on single bits, and assignments (IEEE 1364-2005, clauses 3 and 5.1, A.6.1 and A.8).
 use Rattle.std.specs.Prelude.{◌≡◌, ℕ, Bool, true, false, not, ◌&&◌, ◌||◌, ◌==◌, List, [], ◌∷◌, ◌++◌, codes}
-use Rattle.std.specs.List.{AllByRecursion, list_all}
+use Rattle.std.specs.List.{list_all}
 use Rattle.line_text.specs.Words.{begins_name, continues_name}
 use Rattle.netlist_verilog.specs.Module.{ModuleValue, IsWireOf, called}
 use Rattle.netlist_verilog.specs.Wires.{Wire}
@@ -15,7 +15,7 @@ pub data Operator : Type 0 where
 
 -- ---- tokens
 
--- a wire's name, a bit, or a sign
+-- a wire's name, a bit, a sign, or the word assign
 pub data Token : Type 0 where
   name : Wire → Token
   bit : Bool → Token
@@ -23,6 +23,9 @@ pub data Token : Type 0 where
   operator : Operator → Token
   opening : Token
   closing : Token
+  assign : Token
+  equals : Token
+  semicolon : Token
 
 abbrev pub token_text : ModuleValue → Token → List ℕ
 token_text m (name w) = called m w
@@ -34,6 +37,9 @@ token_text m (operator xor) = codes "^"
 token_text m (operator or) = codes "|"
 token_text m opening = codes "("
 token_text m closing = codes ")"
+token_text m assign = codes "assign"
+token_text m equals = codes "="
+token_text m semicolon = codes ";"
 
 -- a letter, `_`, a digit or `$`
 abbrev pub continues_identifier : ℕ → Bool
@@ -52,8 +58,11 @@ IsTokenOf m tilde = Unit {0}
 IsTokenOf m (operator o) = Unit {0}
 IsTokenOf m opening = Unit {0}
 IsTokenOf m closing = Unit {0}
+IsTokenOf m assign = Unit {0}
+IsTokenOf m equals = Unit {0}
+IsTokenOf m semicolon = Unit {0}
 
--- a next byte that would make a longer token of it: a name or a number that goes on, or `~&`, `~^`, `~|`, `&&`, `^~`, `||`, `(*`
+-- a next byte that would make a longer token of it: a word or a number that goes on, or `~&`, `~^`, `~|`, `&&`, `^~`, `||`, `(*`, `==`
 abbrev pub lengthens : Token → ℕ → Bool
 lengthens (name w) b = continues_identifier b
 lengthens (bit v) b = continues_identifier b || (b == 63)
@@ -63,30 +72,51 @@ lengthens (operator xor) b = b == 126
 lengthens (operator or) b = b == 124
 lengthens opening b = b == 42
 lengthens closing b = false
+lengthens assign b = continues_identifier b
+lengthens equals b = b == 61
+lengthens semicolon b = false
 
 -- a space, a tab, a line feed or a form feed
 abbrev pub is_blank : ℕ → Bool
 is_blank b = (b == 32) || ((b == 9) || ((b == 10) || (b == 12)))
-
-abbrev pub AreBlank : List ℕ → Type 0
-AreBlank bytes = AllByRecursion (λ b. is_blank b ≡ true) bytes
 
 -- the bytes don't begin with one that passes
 abbrev pub NoneFirst : (ℕ → Bool) → List ℕ → Type 0
 NoneFirst p [] = Unit {0}
 NoneFirst p (b ∷ bs) = p b ≡ false
 
--- the text begins with blanks and the token, which goes as far as it can, and then comes the rest
+-- no `*/` stands in the bytes
+abbrev pub HoldsNoEnd : List ℕ → Type 0
+HoldsNoEnd [] = Unit {0}
+HoldsNoEnd (b ∷ bs) = (b ≡ 42 → NoneFirst (λ c. c == 47) bs) × HoldsNoEnd bs
+
+-- white space and comments
+pub data Gap : Type 0 where
+  nothing : Gap
+  blank : ℕ → Gap → Gap
+  comment : List ℕ → Gap → Gap
+
+abbrev pub gap_text : Gap → List ℕ
+gap_text nothing = []
+gap_text (blank b g) = b ∷ gap_text g
+gap_text (comment bytes g) = codes "/*" ++ (bytes ++ (codes "*/" ++ gap_text g))
+
+abbrev pub IsGap : Gap → Type 0
+IsGap nothing = Unit {0}
+IsGap (blank b g) = (is_blank b ≡ true) × IsGap g
+IsGap (comment bytes g) = HoldsNoEnd bytes × IsGap g
+
+-- the text begins with a gap and the token, which goes as far as it can, and then comes the rest
 pub record Begins (m : ModuleValue) (t : Token) (text rest : List ℕ) : Type 0 where
   pub known : IsTokenOf m t
-  pub blanks : List ℕ
-  pub blank : AreBlank blanks
-  pub whole : text ≡ blanks ++ (token_text m t ++ rest)
+  pub gap : Gap
+  pub is_gap : IsGap gap
+  pub whole : text ≡ gap_text gap ++ (token_text m t ++ rest)
   pub ends : NoneFirst (lengthens t) rest
 
 -- the text is these tokens
 abbrev pub Spells : ModuleValue → List Token → List ℕ → Type 0
-Spells m [] text = AreBlank text
+Spells m [] text = (g : Gap) × IsGap g × (text ≡ gap_text g)
 Spells m (t ∷ ts) text = (rest : List ℕ) × Begins m t text rest × Spells m ts rest
 
 -- ---- expressions
@@ -139,3 +169,7 @@ formula (joined o e g) = join o (formula e) (formula g)
 -- the text is an expression, and this is its formula
 abbrev pub IsReadAs : ModuleValue → List ℕ → Formula → Type 0
 IsReadAs m text f = (e : Expression (row or)) × Spells m (tokens e) text × (formula e ≡ f)
+
+-- the text is an assignment to this wire, and what it assigns is this formula
+abbrev pub IsAssignment : ModuleValue → List ℕ → Wire → Formula → Type 0
+IsAssignment m text w f = (e : Expression (row or)) × Spells m (assign ∷ name w ∷ equals ∷ (tokens e ++ semicolon ∷ [])) text × (formula e ≡ f)

@@ -10,8 +10,8 @@ use Rattle.handshake_eqs.specs.Agreement.{request, done, idle}
 use Rattle.line_text.specs.Lines.{text_of}
 use Rattle.netlist_verilog.specs.Module.{ModuleValue, IsModule, IsWireOf, called}
 use Rattle.netlist_verilog.specs.Wires.{Wire, Signal, Go, Acknowledge, Request, Done, Idle}
-use Rattle.netlist_verilog.specs.Formulas.{Formula, value, ReadsOnly, formula_text, Equation}
-use Rattle.netlist_verilog.specs.Grammar.{IsReadAs}
+use Rattle.netlist_verilog.specs.Formulas.{Formula, value, ReadsOnly, NamesOnly, formula_text, Equation, equation_row}
+use Rattle.netlist_verilog.specs.Grammar.{IsReadAs, IsAssignment}
 use Rattle.netlist_verilog.specs.Equations.{table_formula, equations}
 use Rattle.netlist_verilog.specs.Rows.{input_wires, output_wires, inner_wires, module_lines}
 
@@ -56,8 +56,9 @@ WiresAreTold = (m : ModuleValue) (w z : Wire) → IsModule m → IsWireOf m w �
 pub record IsEquationOf (m : ModuleValue) (e : Equation) : Type 0 where
   pub assigned : IsWireOf m e.wire
   pub read : ReadsOnly (IsWireOf m) e.formula
+  pub named : NamesOnly (IsWireOf m) e.comment
 
--- what a module declares, assigns and reads are wires of it
+-- what a module declares, assigns, reads and names in comments are wires of it
 pub record HasItsWires (m : ModuleValue) : Type 0 where
   pub declared : AllByRecursion (IsWireOf m) (input_wires m.netlist ++ (output_wires m.netlist ++ inner_wires m.netlist))
   pub equations_over : AllByRecursion (IsEquationOf m) (equations m.netlist)
@@ -72,3 +73,11 @@ FormulasAreRead = (m : ModuleValue) (f : Formula) → IsModule m → ReadsOnly (
 -- no text is read as two formulas
 abbrev pub ReadingIsOne : Type 0
 ReadingIsOne = (m : ModuleValue) (text : List ℕ) (f g : Formula) → IsModule m → IsReadAs m text f → IsReadAs m text g → f ≡ g
+
+-- the line of an equation over the wires of a module is read as this equation
+abbrev pub EquationsAreRead : Type 0
+EquationsAreRead = (m : ModuleValue) (e : Equation) → IsModule m → IsEquationOf m e → IsAssignment m (equation_row m.netlist.gates.inputs m.names e) e.wire e.formula
+
+-- no line is read as two equations
+abbrev pub AssignmentIsOne : Type 0
+AssignmentIsOne = (m : ModuleValue) (text : List ℕ) (w z : Wire) (f g : Formula) → IsModule m → IsAssignment m text w f → IsAssignment m text z g → (w ≡ z) × (f ≡ g)

@@ -1,4 +1,4 @@
-ghost use Rattle.netlist_verilog.specs.Laws.{FormulasAreTables, EquationsGiveOutputs, EquationsSettle, LinesHoldNoFeed, TextTellsModule, WiresAreTold, ModulesHaveTheirWires, FormulasAreRead, ReadingIsOne};
+ghost use Rattle.netlist_verilog.specs.Laws.{FormulasAreTables, EquationsGiveOutputs, EquationsSettle, LinesHoldNoFeed, TextTellsModule, WiresAreTold, ModulesHaveTheirWires, FormulasAreRead, ReadingIsOne, EquationsAreRead, AssignmentIsOne};
 
 /// The value of a gate's formula is the gate's value by its table.
 pub fn formulas_are_tables()
@@ -43,4 +43,14 @@ pub fn formulas_are_read()
 /// No text is read as two formulas.
 pub fn reading_is_one()
     ensures { ReadingIsOne }
+{}
+
+/// The line of an equation over the wires of a module is read as this equation, by the grammar of Verilog's assignments.
+pub fn equations_are_read()
+    ensures { EquationsAreRead }
+{}
+
+/// No line is read as two equations.
+pub fn assignment_is_one()
+    ensures { AssignmentIsOne }
 {}

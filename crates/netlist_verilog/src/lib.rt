@@ -18,9 +18,9 @@ mod tests;
 mod writing;
 
 pub use laws::{
-    equations_give_outputs, equations_settle, formulas_are_read, formulas_are_tables,
-    lines_hold_no_feed, modules_have_their_wires, reading_is_one, text_tells_module,
-    wires_are_told,
+    assignment_is_one, equations_are_read, equations_give_outputs, equations_settle,
+    formulas_are_read, formulas_are_tables, lines_hold_no_feed, modules_have_their_wires,
+    reading_is_one, text_tells_module, wires_are_told,
 };
 pub use module::Module;
 pub use signal_name::SignalName;
