@@ -71,7 +71,7 @@ gate_over m is g lt =
 request_over : (m : ModuleValue) (v : ℕ) → v < length m.netlist.conditions → IsEquationOf m (request_equation m.netlist v)
 request_over m v lv = record { assigned = lv; read = each_reads (IsWireOf m) _ (set.contains (waits_of m.netlist v)) (arc_formula v) (length m.netlist.conditions) (tt, lv) (λ u lu. ((lu, lu), (lu, lv))); named = tt }
 
-equations_over : (m : ModuleValue) → IsModule m → AllByRecursion (IsEquationOf m) (equations m.netlist)
+pub equations_over : (m : ModuleValue) → IsModule m → AllByRecursion (IsEquationOf m) (equations m.netlist)
 equations_over m is =
     let n : Netlist = m.netlist in
     let count : ℕ = length n.conditions in
@@ -93,13 +93,13 @@ arc_wire_own : (m : ModuleValue) (u v : ℕ) (w : Option Ref) → u < length m.n
 arc_wire_own m u v None hu hv = tt
 arc_wire_own m u v (Some r) hu hv = ((hu, hv), tt)
 
-inputs_own : (m : ModuleValue) → AllByRecursion (IsWireOf m) (input_wires m.netlist)
+pub inputs_own : (m : ModuleValue) → AllByRecursion (IsWireOf m) (input_wires m.netlist)
 inputs_own m = parts_joined (IsWireOf m) (signals_from 0 m.netlist.gates.inputs) _ (signals_own m 0 m.netlist.gates.inputs (omega arith)) (tt, parts_below (IsWireOf m) (λ v. Acknowledge v ∷ []) (length m.netlist.conditions) (λ v lt. (lt, tt)))
 
-outputs_own : (m : ModuleValue) → AllByRecursion (IsWireOf m) (output_wires m.netlist)
+pub outputs_own : (m : ModuleValue) → AllByRecursion (IsWireOf m) (output_wires m.netlist)
 outputs_own m = parts_joined (IsWireOf m) (for_each Request (length m.netlist.conditions)) (Done ∷ Idle ∷ []) (parts_below (IsWireOf m) (λ v. Request v ∷ []) (length m.netlist.conditions) (λ v lt. (lt, tt))) (tt, (tt, tt))
 
-inner_own : (m : ModuleValue) → AllByRecursion (IsWireOf m) (inner_wires m.netlist)
+pub inner_own : (m : ModuleValue) → AllByRecursion (IsWireOf m) (inner_wires m.netlist)
 inner_own m =
     let n : Netlist = m.netlist in
     let count : ℕ = length n.conditions in
