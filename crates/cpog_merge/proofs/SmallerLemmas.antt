@@ -78,7 +78,7 @@ few_members orders (Arc u v) =
     counted is_one (entry (Arc u v)) (member (Arc u v)) orders (λ o. covers (has o u.0 && has o v.0) (is_covered o u.0 v.0) (is_before o u.0 v.0)) in
     omega arith
 
--- ---- one scenario is in few smaller sets
+-- ---- what one scenario adds to the smaller sets
 
 -- how many numbers below n fail
 abbrev failing : (ℕ → Bool) → ℕ → ℕ

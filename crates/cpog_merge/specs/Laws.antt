@@ -52,13 +52,13 @@ GraphByClassAgrees =
     (e : Encoding) (t : Table) (list : Classes) (refs : List Ref) → AreClassesOf t list → length e.codes ≡ t.scenarios →
     AgreeWithClasses e.gates e.codes list refs → IsGraphByClass t.count list refs e.graph → AgreesWithTable e t
 
--- The smaller sets of the classes have at most 1024 members for each scenario, where there are at most 64 operations.
+-- The smaller sets of all classes together have at most 1024 times as many members as there are scenarios, where there are at most 64 operations.
 abbrev pub SmallerSetsAreFew : Type 0
 SmallerSetsAreFew =
     (orders : List Order) (t : Table) (list : Classes) → All (IsOrderOf (count_of orders)) orders → count_of orders ≤ 64 →
     AreColumnsOf orders t → AreClassesOf t list → sum_by smaller_set list.columns ≤ length orders * 1024
 
--- To join the members of each smaller set takes at most 63488 gates, where there are at most 64 scenarios as well.
+-- Summed over the classes, the members of the smaller set less one are at most 63488, where there are at most 64 scenarios as well.
 abbrev pub JoiningIsBounded : Type 0
 JoiningIsBounded =
     (orders : List Order) (t : Table) (list : Classes) → All (IsOrderOf (count_of orders)) orders → count_of orders ≤ 64 → length orders ≤ 64 →

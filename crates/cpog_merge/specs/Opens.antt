@@ -1,4 +1,4 @@
--- The lists from which the classes are chosen.
+-- The lists from which the classes are chosen, and the tests by which they are.
 use Rattle.std.specs.Prelude.{ℕ, ◌+◌, ◌==◌, ◌<◌, Bool, IsTrue, not, true, false, ◌&&◌, ◌||◌, if◌then◌else◌, List, [], ◌∷◌, ◌++◌, length, take, drop, slice_index_or}
 use Rattle.std.specs.List.{list_any, list_all, position_or_len}
 use Rattle.cpog_base.specs.Column.{is_one, is_zero}

@@ -39,12 +39,14 @@ pub fn graph_by_class_agrees()
 {}
 
 /// An operation's smaller set has at most the scenarios that lack it, a pair's at most those of which it is a covering
-/// pair. Covering pairs are few (Mantel 1907), so over all classes a scenario is in at most 1024 smaller sets.
+/// pair. Covering pairs are few (Mantel 1907), so the smaller sets of all classes together have at most 1024 times as many
+/// members as there are scenarios.
 pub fn smaller_sets_are_few()
     ensures { SmallerSetsAreFew }
 {}
 
-/// To join the members of the smaller set of each class takes at most 63488 gates of two inputs.
+/// Summed over the classes, the members of the smaller set less one are at most 63488: so many gates of two inputs join
+/// the members of each set.
 pub fn joining_is_bounded()
     ensures { JoiningIsBounded }
 {}
