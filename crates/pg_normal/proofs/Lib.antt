@@ -1,0 +1,9 @@
+pub mod EntryLemmas
+pub mod RowLemmas
+pub mod MemberLemmas
+pub mod StepLemmas
+pub mod MeaningLemmas
+pub mod OrderLemmas
+pub mod OverLemmas
+pub mod MakingLemmas
+pub mod NamedLemmas

@@ -1,0 +1,65 @@
+-- Graphs as tables for all operations and pairs of them, and what the lines before have stated.
+use Rattle.std.specs.Prelude.{◌≡◌, ℕ, ◌<◌, ◌≤◌, true, List, [], length, slice_get, slice_index, slice_index_or, Option, Some, None}
+use Rattle.std.specs.List.{AllByRecursion}
+use Rattle.cpog_base.specs.Names.{place_of}
+use Rattle.cpog_defs.specs.Codes.{bit}
+use Rattle.pg_algebra.specs.Graphs.{Graph, empty}
+use Rattle.pg_algebra.specs.Meaning.{Earlier}
+use Rattle.pg_normal.specs.declared.tables.Tables.{Tables}
+use Rattle.pg_normal.specs.declared.known.Known.{Known}
+use Rattle.pg_normal.specs.Appearing.{has}
+use Rattle.pg_normal.specs.Forms.{Implies}
+
+-- the table of the arc from u to v: the row of v holds the arcs to v
+abbrev pub entry : List (List ℕ) → ℕ → ℕ → ℕ
+entry arcs u v = slice_index (slice_index_or arcs v []) u
+
+-- the graph of these tables under valuation n
+abbrev pub graph_of_rows : List ℕ → List (List ℕ) → ℕ → Graph
+graph_of_rows vertices arcs n = record { vertex = λ v. bit (slice_index vertices v) n; arc = λ u v. bit (entry arcs u v) n }
+
+abbrev pub graph_of_tables : Tables → ℕ → Graph
+graph_of_tables t n = graph_of_rows t.vertices t.arcs n
+
+-- as many rows as each row is long
+pub record IsSquare (count : ℕ) (arcs : List (List ℕ)) : Type 0 where
+  pub rows : length arcs ≡ count
+  pub widths : (v : ℕ) → v < count → length (slice_index_or arcs v []) ≡ count
+
+-- over so many operations; an arc occurs only where its ends do, and what occurs is listed
+pub record IsOver (count : ℕ) (t : Tables) : Type 0 where
+  pub vertices : length t.vertices ≡ count
+  pub arcs : IsSquare count t.arcs
+  pub first : (u v : ℕ) → Implies (entry t.arcs u v) (slice_index t.vertices u)
+  pub second : (u v : ℕ) → Implies (entry t.arcs u v) (slice_index t.vertices v)
+  pub listed : (v n : ℕ) → n < 64 → bit (slice_index t.vertices v) n ≡ true → has t.order v ≡ true
+
+-- what is kept of the graph at a place, if there is one
+abbrev pub tables_at : List Tables → Option ℕ → Option Tables
+tables_at forms None = None
+tables_at forms (Some i) = slice_get forms i
+
+abbrev pub tables_named : Known → List ℕ → Option Tables
+tables_named known name = tables_at known.tables (place_of known.graphs name)
+
+abbrev pub graph_or_empty : ℕ → Option Tables → Graph
+graph_or_empty n None = empty
+graph_or_empty n (Some t) = graph_of_tables t n
+
+abbrev pub order_or_none : Option Tables → List ℕ
+order_or_none None = []
+order_or_none (Some t) = t.order
+
+-- the graphs that are known under valuation n, by their names
+abbrev pub graphs_known : Known → ℕ → Earlier
+graphs_known known n name = graph_or_empty n (tables_named known name)
+
+-- their operations in the order of first appearance
+abbrev pub orders_known : Known → List ℕ → List ℕ
+orders_known known name = order_or_none (tables_named known name)
+
+-- few parameters, and tables over so many operations for each graph that is known
+pub record IsKnown (count : ℕ) (known : Known) : Type 0 where
+  pub few : length known.params ≤ 6
+  pub each : length known.tables ≡ length known.graphs
+  pub over : AllByRecursion (IsOver count) known.tables

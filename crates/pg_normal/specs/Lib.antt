@@ -1,0 +1,4 @@
+pub mod Forms
+pub mod Known
+pub mod Appearing
+pub mod Sound

@@ -1,0 +1,62 @@
+//! A graph under all valuations at once, with a table for each operation and each pair, by their numbers.
+ghost use Rattle.std.specs.Prelude.{◌≡◌, ◌<◌, ◌&&◌, ◌||◌, ℕ, [], length, slice_index, IfOk, false};
+ghost use Rattle.cpog_defs.specs.Codes.{bit};
+ghost use Rattle.pg_normal.specs.Known.{IsSquare, entry};
+
+use crate::{Order, Row};
+use cpog_base::Memory;
+use pg_algebra::Table;
+use sqlite_items::Items;
+use std::alloc::Global;
+
+/// The operations in the order of first appearance, their tables, and for each second end those of arcs.
+#[derive(Drop)]
+pub struct Tables {
+    pub(crate) order: Order,
+    pub(crate) vertices: Row,
+    pub(crate) arcs: Items<Row>,
+}
+
+/// Adds the arcs of other rows, where the guard is 1.
+pub(crate) fn unite_rows(into: &mut [Row], from: &[Row], guard: Table)
+    requires into { IsSquare (length into.old) into.old }
+    requires from { IsSquare (length into.old) from.now }
+    ensures square { IsSquare (length into.old) into.new }
+    ensures each { (u v n : ℕ) → bit (entry into.new u v) n ≡ (bit (entry into.old u v) n || (bit guard.0 n && bit (entry from.now u v) n)) }
+{
+    'rows: for v in 0..into.len() {
+        into[v].unite(&from[v], guard);
+    }
+}
+
+/// Adds an arc from each vertex of the first row to each of the second.
+pub(crate) fn join(arcs: &mut [Row], before: &Row, here: &Row)
+    requires square { IsSquare (length arcs.old) arcs.old }
+    requires before { length before.now ≡ length arcs.old }
+    requires here { length here.now ≡ length arcs.old }
+    ensures square { IsSquare (length arcs.old) arcs.new }
+    ensures each { (u v n : ℕ) → bit (entry arcs.new u v) n ≡ (bit (entry arcs.old u v) n || (bit (slice_index before.now u) n && bit (slice_index here.now v) n)) }
+{
+    'rows: for v in 0..arcs.len() {
+        let table = here.get(v);
+        if table != 0 {
+            arcs[v].unite(before, Table(table));
+        }
+    }
+}
+
+/// As many rows of zeros as each is long.
+///
+/// # Errors
+///
+/// `Memory` where none is left.
+pub(crate) fn zero_rows(alloc: Global, count: usize) -> Result<Vec<Row>, Memory>
+    ensures square { IfOk result (λ rows. IsSquare count rows.items) }
+    ensures zeros { IfOk result (λ rows. (u v n : ℕ) → bit (entry rows.items u v) n ≡ false) }
+{
+    let mut rows = Vec::new(alloc);
+    'rows: for _v in 0..count {
+        rows.push(Row::zeros(alloc, count)?)?;
+    }
+    Ok(rows)
+}
