@@ -6,4 +6,6 @@ pub mod MeaningLemmas
 pub mod OrderLemmas
 pub mod OverLemmas
 pub mod MakingLemmas
+pub mod PartialLemmas
+pub mod ChangeLemmas
 pub mod NamedLemmas

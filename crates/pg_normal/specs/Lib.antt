@@ -2,3 +2,5 @@ pub mod Forms
 pub mod Known
 pub mod Appearing
 pub mod Sound
+pub mod Changes
+pub mod Instances

@@ -1,7 +1,7 @@
 //! Normal forms of parameterised graphs (Mokhov and Khomenko, Algebra of Parameterised Graphs, 2014): the operations and
 //! arcs of an expression, each with a table of the valuations under which it occurs (`form`). A form is made of tables
 //! for all operations and pairs by their numbers (`row`, `tables`, `adding`, `order`, `making`), which the graphs of
-//! earlier lines keep (`known`). It stands above
+//! earlier lines keep (`known`), and gives a scenario where the bindings leave no choice (`instances`). It stands above
 //! `pg_algebra` and below what turns the statements of a text into scenarios. It promises that a form is the
 //! expression's graph under every valuation, with the operations in the order of their first appearance, and that a
 //! scenario is the graph under every valuation that agrees with its bindings.
@@ -9,13 +9,17 @@
 
 mod adding;
 mod form;
+mod instances;
 mod known;
 mod making;
 mod order;
 mod row;
 mod tables;
+#[cfg(test)]
+mod tests;
 
 pub use form::NormalForm;
+pub use instances::{InstanceFault, Partial, instance};
 pub use known::Known;
 pub use making::{form_of, with_graph};
 pub(crate) use order::Order;

@@ -1,0 +1,248 @@
+//! A scenario is the graph of its form where the bound parameters have their bits, which no other parameter may change.
+ghost use Rattle.std.specs.Prelude.{◌≡◌, ◌≢◌, ◌<◌, ◌≤◌, ◌⊎◌, ◌==◌, ◌||◌, ◌&&◌, ◌↔◌, ℕ, true, false, nat_lt, IfOk, IfErr, OnOk, MatchOption, if◌then◌else◌};
+ghost use Rattle.std.specs.Bool.{MatchBool};
+ghost use Rattle.std.specs.List.{AllByRecursion};
+ghost use Rattle.std.specs.FinSet as set;
+ghost use Rattle.cpog_base.specs.Arcs.{has_arc};
+ghost use Rattle.cpog_defs.specs.Codes.{bit};
+ghost use Rattle.pg_algebra.specs.Tables.{flip};
+ghost use Rattle.pg_normal.specs.Forms.{vertex_table, arc_table, graph_at, sometimes, IsForm};
+ghost use Rattle.pg_normal.specs.Instances.{Agrees, ChangesGraph, IsInstance, IsInstanceFault, IsScenarioOf, IsUnbound};
+ghost use Rattle.pg_normal.specs.Changes.{Differs, Keeps, KeepsVertices, KeepsArcsFrom, KeepsGraph, VertexDiffers, ArcDiffers, IsBelow};
+ghost use Rattle.pg_normal.specs.declared.instances.InstanceFault.TheVariants as fault;
+
+use crate::NormalForm;
+use cpog_base::{Memory, OpId, Scenario};
+use pg_algebra::Table;
+use std::alloc::Global;
+
+/// Bits of some parameters: which are fixed, and their values.
+#[derive(Clone, Copy, Debug, PartialEq, Eq)]
+pub struct Partial {
+    pub fixed: u8,
+    pub values: u8,
+}
+
+/// Why a form under bindings is no scenario.
+#[derive(Clone, Copy, Debug, PartialEq, Eq)]
+pub enum InstanceFault {
+    /// The least parameter that is not bound and changes the graph.
+    Unbound(u8),
+    /// No memory was left.
+    Memory,
+}
+
+impl From<Memory> for InstanceFault {
+    ghost from_gives = { λ _ e. e ≡ fault.Memory };
+
+    fn from(_error: Memory) -> InstanceFault {
+        InstanceFault::Memory
+    }
+}
+
+/// Bit k of a word.
+fn is_set(word: u8, k: u8) -> bool
+    requires { k < 8 }
+    ensures { result ≡ bit word k }
+{
+    (word >> k) & 1 == 1
+}
+
+/// The value under valuation n.
+fn value_at(table: Table, n: u8) -> bool
+    requires { n < 64 }
+    ensures { result ≡ bit table.0 n }
+{
+    (table.0 >> n) & 1 == 1
+}
+
+/// Whether the word is 1 under some valuation.
+fn ever_holds(word: u64) -> bool
+    ensures { result ≡ sometimes (bit word) }
+{
+    word != 0
+}
+
+/// The table of a parameter, or of its complement.
+fn literal(k: u8, set: bool) -> Table
+    requires { k < 6 }
+    ensures { (n : ℕ) → n < 64 → (bit result.0 n ≡ true) ↔ (bit n k ≡ set) }
+{
+    let own = Table::of_param(k);
+    if set { own } else { own.not() }
+}
+
+/// The valuations that agree with the bindings.
+fn agreeing(bound: Partial) -> Table
+    ensures { (n : ℕ) → n < 64 → (bit result.0 n ≡ true) ↔ Agrees bound.fixed bound.values n }
+{
+    let mut all = Table::constant(true);
+    'parameters: for k in 0..6 {
+        if is_set(bound.fixed, k) {
+            all = all.and(literal(k, is_set(bound.values, k)));
+        }
+    }
+    all
+}
+
+/// Whether parameter k alone changes the table under some of these valuations.
+fn changes(table: Table, k: u8, among: Table) -> bool
+    requires { k < 6 }
+    ensures { MatchBool result (Differs table.0 k among.0) (Keeps table.0 k among.0) }
+{
+    let turned = table.fix(k, true).0 ^ table.fix(k, false).0;
+    ever_holds(turned & among.0)
+}
+
+/// Whether parameter k alone changes which vertices there are.
+fn vertices_change(form: &NormalForm, k: u8, among: Table, count: u8) -> bool
+    requires parameter { k < 6 }
+    requires form { IsForm form.now }
+    requires below { IsBelow count form.now }
+    ensures { MatchBool result (VertexDiffers form.now k among.0) (KeepsVertices form.now k among.0) }
+{
+    'vertices: for v in 0..count {
+        if changes(form.vertex_table(u32::from(v)), k, among) {
+            return true;
+        }
+    }
+    false
+}
+
+/// Whether parameter k alone changes which arcs there are from one vertex.
+fn arcs_change_from(form: &NormalForm, u: u8, k: u8, among: Table, count: u8) -> bool
+    requires parameter { k < 6 }
+    requires form { IsForm form.now }
+    requires below { IsBelow count form.now }
+    ensures { MatchBool result (ArcDiffers form.now k among.0) (KeepsArcsFrom form.now u k among.0) }
+{
+    'seconds: for v in 0..count {
+        if changes(form.arc_table(u32::from(u), u32::from(v)), k, among) {
+            return true;
+        }
+    }
+    false
+}
+
+/// Whether parameter k alone changes which arcs there are.
+fn arcs_change(form: &NormalForm, k: u8, among: Table, count: u8) -> bool
+    requires parameter { k < 6 }
+    requires form { IsForm form.now }
+    requires below { IsBelow count form.now }
+    ensures { MatchBool result (ArcDiffers form.now k among.0) ((u : ℕ) → KeepsArcsFrom form.now u k among.0) }
+{
+    'firsts: for u in 0..count {
+        if arcs_change_from(form, u, k, among, count) {
+            return true;
+        }
+    }
+    false
+}
+
+/// Whether parameter k alone changes the graph under some of these valuations.
+fn graph_changes(form: &NormalForm, k: u8, among: Table, count: u8) -> bool
+    requires parameter { k < 6 }
+    requires form { IsForm form.now }
+    requires below { IsBelow count form.now }
+    ensures { MatchBool result (VertexDiffers form.now k among.0 ⊎ ArcDiffers form.now k among.0) (KeepsGraph form.now k among.0) }
+{
+    vertices_change(form, k, among, count) || arcs_change(form, k, among, count)
+}
+
+/// The least parameter that is not bound and changes the graph under some of these valuations.
+fn first_unbound(form: &NormalForm, bound: Partial, among: Table, count: u8) -> Option<u8>
+    requires among { (n : ℕ) → n < 64 → (bit among.0 n ≡ true) ↔ Agrees bound.fixed bound.values n }
+    requires form { IsForm form.now }
+    requires below { IsBelow count form.now }
+    ensures { MatchOption result ((k : ℕ) → k < 6 → bit bound.fixed k ≡ false → KeepsGraph form.now k among.0) (IsUnbound form.now bound.fixed bound.values) }
+{
+    'parameters: for k in 0..6 {
+        if !is_set(bound.fixed, k) && graph_changes(form, k, among, count) {
+            return Some(k);
+        }
+    }
+    None
+}
+
+/// A scenario of the vertices under valuation n, without arcs.
+fn with_vertices(alloc: Global, form: &NormalForm, n: u8, count: u8) -> Scenario
+    requires valuation { n < 64 }
+    requires few { count ≤ 128 }
+    requires below { IsBelow count form.now }
+    ensures size { result.count ≡ count }
+    ensures ops { (v : ℕ) → set.contains result.ops v ≡ bit (vertex_table form.now v) n }
+    ensures arcs { (u v : ℕ) → has_arc result.arcs u v ≡ false }
+{
+    let mut scenario = Scenario::new(alloc, count);
+    'vertices: for v in 0..count {
+        if value_at(form.vertex_table(u32::from(v)), n) {
+            scenario.add_op(OpId(v));
+        }
+    }
+    scenario
+}
+
+/// Gives a scenario the arcs from one vertex under valuation n.
+fn add_arcs_from(
+    scenario: &mut Scenario,
+    form: &NormalForm,
+    n: u8,
+    u: u8,
+    count: u8,
+) -> Result<(), Memory>
+    requires valuation { n < 64 }
+    requires form { IsForm form.now }
+    requires below { IsBelow count form.now }
+    requires ops { (v : ℕ) → set.contains scenario.old.ops v ≡ bit (vertex_table form.now v) n }
+    requires fresh { (v : ℕ) → has_arc scenario.old.arcs u v ≡ false }
+    ensures size { OnOk result (scenario.new.count ≡ scenario.old.count) }
+    ensures ops { OnOk result (scenario.new.ops ≡ scenario.old.ops) }
+    ensures arcs { OnOk result ((a b : ℕ) → has_arc scenario.new.arcs a b ≡ (if a == u then bit (arc_table form.now a b) n else has_arc scenario.old.arcs a b)) }
+{
+    'seconds: for v in 0..count {
+        if value_at(form.arc_table(u32::from(u), u32::from(v)), n) {
+            scenario.add_arc(OpId(u), OpId(v))?;
+        }
+    }
+    Ok(())
+}
+
+/// The scenario of the graph under valuation n.
+fn scenario_at(alloc: Global, form: &NormalForm, n: u8, count: u8) -> Result<Scenario, Memory>
+    requires valuation { n < 64 }
+    requires few { count ≤ 128 }
+    requires form { IsForm form.now }
+    requires below { IsBelow count form.now }
+    ensures { IfOk result (IsScenarioOf count (graph_at form.now n)) }
+{
+    let mut scenario = with_vertices(alloc, form, n, count);
+    'firsts: for u in 0..count {
+        add_arcs_from(&mut scenario, form, n, u, count)?;
+    }
+    Ok(scenario)
+}
+
+/// The scenario of a form under bindings, of so many operations as there may be.
+///
+/// # Errors
+///
+/// `Unbound` where a parameter that is not bound changes the graph, with the least one. `Memory` where none is left.
+pub fn instance(
+    alloc: Global,
+    form: &NormalForm,
+    bound: Partial,
+    count: u8,
+) -> Result<Scenario, InstanceFault>
+    requires few { count ≤ 128 }
+    requires below { IsBelow count form.now }
+    requires values { bound.values < 64 }
+    ensures ok { IfOk result (IsInstance form.now bound.fixed bound.values count) }
+    ensures err { IfErr result (IsInstanceFault form.now bound.fixed bound.values) }
+{
+    let _vertices = form.vertices();
+    if let Some(k) = first_unbound(form, bound, agreeing(bound), count) {
+        return Err(InstanceFault::Unbound(k));
+    }
+    let scenario = scenario_at(alloc, form, bound.values, count)?;
+    Ok(scenario)
+}
