@@ -9,3 +9,4 @@ pub mod MakingLemmas
 pub mod PartialLemmas
 pub mod ChangeLemmas
 pub mod NamedLemmas
+pub mod NamingLemmas

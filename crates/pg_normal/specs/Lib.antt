@@ -4,3 +4,4 @@ pub mod Appearing
 pub mod Sound
 pub mod Changes
 pub mod Instances
+pub mod Naming

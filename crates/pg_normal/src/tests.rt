@@ -1,5 +1,7 @@
-use crate::{InstanceFault, NormalForm, Partial, instance};
+use crate::{InstanceFault, NameFault, NormalForm, Partial, check_names, instance};
 use pg_algebra::Table;
+use pg_text::read_file;
+use std::alloc::Global;
 use std::test::Fail;
 
 #[test]
@@ -25,4 +27,77 @@ fn a_form_has_its_vertices(rt: HostRuntime) -> Result<(), Fail> {
     };
     assert!(rt; matches!(instance(rt.alloc(), &form, bound, 4), Ok(_)));
     Ok(())
+}
+
+/// The fault of the names in a text: its kind, its line and its name.
+fn is_fault(alloc: Global, text: &str, kind: u8, at: u32, told: &str) -> bool {
+    if text.len() > 1000 {
+        return false;
+    }
+    let Ok(file) = read_file(alloc, text.as_bytes()) else {
+        return false;
+    };
+    match check_names(alloc, &file) {
+        Err(NameFault::Duplicate { line, name }) => {
+            kind == 0 && line == at && name.as_str() == told
+        }
+        Err(NameFault::UnknownGraph { line, name }) => {
+            kind == 1 && line == at && name.as_str() == told
+        }
+        Err(NameFault::UnknownParam { line, name }) => {
+            kind == 2 && line == at && name.as_str() == told
+        }
+        _ => false,
+    }
+}
+
+/// Whether the names of a text are in order.
+fn is_in_order(alloc: Global, text: &str) -> bool {
+    if text.len() > 1000 {
+        return false;
+    }
+    let Ok(file) = read_file(alloc, text.as_bytes()) else {
+        return false;
+    };
+    check_names(alloc, &file).is_ok()
+}
+
+#[test]
+fn the_first_fault_of_names_is_told(rt: HostRuntime) {
+    let alloc = rt.alloc();
+    assert!(rt; is_fault(alloc, "params a, b, a\n", 0, 1, "a"));
+    assert!(rt; is_fault(alloc, "\ngraph g = @g\n", 1, 2, "g"));
+    assert!(rt; is_fault(alloc, "graph g = a -> @h\ngraph h = a\n", 1, 1, "h"));
+    assert!(rt; is_fault(alloc, "params p\nscenario s = [q] @g\n", 2, 2, "q"));
+    assert!(rt;
+        is_fault(
+            alloc,
+            "params p\nscenario s = a with p = 0, p = 1\n",
+            0,
+            2,
+            "p"
+        )
+    );
+    assert!(rt;
+        is_fault(
+            alloc,
+            "scenario s = a with q = 1\nscenario s = a\n",
+            2,
+            1,
+            "q"
+        )
+    );
+    assert!(rt; is_fault(alloc, "graph g = a\ngraph g = @h\n", 0, 2, "g"));
+    assert!(rt;
+        is_in_order(
+            alloc,
+            "params a\ngraph a = [a] a\nscenario a = @a with a = 1\n"
+        )
+    );
+    assert!(rt;
+        is_in_order(
+            alloc,
+            "params p\nscenario s = a with p = 1\nscenario t = a with p = 0\n"
+        )
+    );
 }

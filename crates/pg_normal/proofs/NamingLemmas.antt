@@ -1,0 +1,116 @@
+-- Faults of names, part by part.
+use Rattle.std.specs.Prelude.{◌≡◌, refl, ℕ, ◌<◌, ◌+◌, Bool, true, false, ◌&&◌, List, [], ◌∷◌, ◌++◌, map, length, slice_get, Option, Some, None, is_some}
+use Rattle.std.specs.List.{flat_map}
+use Rattle.std.proofs.Common.{ap, ap₂, ◌∙◌, sym, subst, get_or, drop, suc, add-one}
+use Rattle.std.proofs.Math.Seq.{drop-cons}
+use Rattle.std.proofs.lemmas.Bool.{both_ways}
+use Rattle.std.proofs.lemmas.Grind.{flat_map-append}
+use Rattle.std.proofs.lemmas.List.Folds.{flat_map-map}
+use Rattle.std.proofs.lemmas.Option.{slice_get_within, get_or_from_slice_get}
+use Rattle.std.specs.Option.{IsSomeAnd}
+use denote.Hole.Carrier.{hidden}
+use Rattle.cpog_base.specs.Names.{has_text, place_of}
+use Rattle.pg_algebra.specs.declared.cond.Cond.{Cond}
+use Rattle.pg_algebra.specs.declared.cond.Cond.TheViews.{Not, And, Or}
+use Rattle.pg_algebra.specs.declared.expr.Expr.{Expr}
+use Rattle.pg_algebra.specs.declared.expr.Expr.TheBlock.{hidden-the_row-Expr-0, hidden-the_row-Expr-1}
+use Rattle.pg_algebra.specs.declared.expr.Expr.TheViews.{When, Overlay, Sequence}
+use Rattle.pg_algebra.specs.Conditions.{params_of}
+use Rattle.pg_algebra.proofs.KnownLemmas.{knows-Param}
+use Rattle.pg_algebra.proofs.TreeLaws.{params_of-Not, params_of-And, params_of-Or}
+use Rattle.pg_text.specs.declared.statement.Statement.{Statement}
+use Rattle.pg_text.specs.declared.statement.Numbered.{Numbered}
+use Rattle.pg_normal.specs.declared.naming.Scope.{Scope}
+use Rattle.pg_normal.specs.declared.naming.NameFault.{NameFault}
+use Rattle.pg_normal.specs.declared.naming.NameFault.TheVariants as fault
+use Rattle.pg_normal.specs.Naming.{param_used, uses, unknown_param, unknown, expr_faults, statement_faults, scope_after, faults_from, first, IsFirst}
+
+alone : (b : Bool) → (b && true) ≡ b
+alone true = refl
+alone false = refl
+
+pub has_place : (names : List (List ℕ)) (name : List ℕ) → is_some (place_of names name) ≡ has_text names name
+has_place names name = sym (knows-Param names name) ∙ alone (has_text names name)
+
+-- ---- the first of more faults
+
+first_of_more : (xs ys : List NameFault) (f : NameFault) → first xs ≡ Some f → first (xs ++ ys) ≡ Some f
+first_of_more [] ys f h = absurd (both_ways false refl (ap is_some h))
+first_of_more (x ∷ xs) ys f h = h
+
+pub first_left : (xs ys : List NameFault) (f : NameFault) → IsFirst xs f → IsFirst (xs ++ ys) f
+first_left xs ys (fault.Duplicate line name) h = first_of_more xs ys (fault.Duplicate line name) h
+first_left xs ys (fault.UnknownGraph line name) h = first_of_more xs ys (fault.UnknownGraph line name) h
+first_left xs ys (fault.UnknownParam line name) h = first_of_more xs ys (fault.UnknownParam line name) h
+first_left xs ys fault.Memory h = h
+
+-- the first of the whole is that of a part behind parts without faults
+pub first_in : (whole part rest : List NameFault) (f : NameFault) → whole ≡ part ++ rest → IsFirst part f → IsFirst whole f
+first_in whole part rest f is h = subst (λ fs. IsFirst fs f) (sym is) (first_left part rest f h)
+
+-- ---- one item of a list
+
+pub next : {X : Type 0} (xs : List X) (i : ℕ) (x d : X) → i < length xs → x ≡ get_or xs i d → drop i xs ≡ x ∷ drop (i + 1) xs
+next xs i x d h is = rw add-one (drop-cons xs i d h ∙ ap (λ y. y ∷ drop (suc i) xs) (sym is))
+
+-- ---- the parts of trees
+
+flat_map-twice : {X Y A : Type 0} (g : Y → List A) (f : X → List Y) (xs : List X) → flat_map g (flat_map f xs) ≡ flat_map (λ x. flat_map g (f x)) xs
+flat_map-twice g f [] = refl
+flat_map-twice g f (x ∷ xs) = flat_map-append g (f x) (flat_map f xs) ∙ ap (λ l. flat_map g (f x) ++ l) (flat_map-twice g f xs)
+
+abbrev pub cond_faults : ℕ → List (List ℕ) → Cond → List NameFault
+cond_faults line params c = flat_map (unknown_param line params) (params_of c)
+
+pub faults-Not : (line : ℕ) (params : List (List ℕ)) (c : Cond) → cond_faults line params (Not c) ≡ cond_faults line params c
+faults-Not line params c = ap (flat_map (unknown_param line params)) (params_of-Not c)
+
+pub faults-And : (line : ℕ) (params : List (List ℕ)) (cs : List Cond) → cond_faults line params (And (record { members = cs })) ≡ flat_map (cond_faults line params) cs
+faults-And line params cs = ap (flat_map (unknown_param line params)) (params_of-And cs) ∙ flat_map-twice (unknown_param line params) params_of cs
+
+pub faults-Or : (line : ℕ) (params : List (List ℕ)) (cs : List Cond) → cond_faults line params (Or (record { members = cs })) ≡ flat_map (cond_faults line params) cs
+faults-Or line params cs = ap (flat_map (unknown_param line params)) (params_of-Or cs) ∙ flat_map-twice (unknown_param line params) params_of cs
+
+uses-When : (c : Cond) (e : Expr) → uses (When c e) ≡ map param_used (params_of c) ++ uses e
+unfolding hidden-the_row-Expr-0 hidden
+uses-When c e = refl
+
+uses-Overlay : (es : List Expr) → uses (Overlay (record { members = es })) ≡ flat_map uses es
+unfolding hidden-the_row-Expr-1 hidden
+uses-Overlay [] = refl
+uses-Overlay (e ∷ es) = ap (λ us. uses e ++ us) (uses-Overlay es)
+
+uses-Sequence : (es : List Expr) → uses (Sequence (record { members = es })) ≡ flat_map uses es
+unfolding hidden-the_row-Expr-1 hidden
+uses-Sequence [] = refl
+uses-Sequence (e ∷ es) = ap (λ us. uses e ++ us) (uses-Sequence es)
+
+pub faults-When : (line : ℕ) (scope : Scope) (c : Cond) (e : Expr) → expr_faults line scope (When c e) ≡ cond_faults line scope.params c ++ expr_faults line scope e
+faults-When line scope c e = ap (flat_map (unknown line scope)) (uses-When c e) ∙ flat_map-append (unknown line scope) (map param_used (params_of c)) (uses e)
+    ∙ ap (λ fs. fs ++ expr_faults line scope e) (flat_map-map (unknown line scope) param_used (params_of c))
+
+pub faults-Overlay : (line : ℕ) (scope : Scope) (es : List Expr) → expr_faults line scope (Overlay (record { members = es })) ≡ flat_map (expr_faults line scope) es
+faults-Overlay line scope es = ap (flat_map (unknown line scope)) (uses-Overlay es) ∙ flat_map-twice (unknown line scope) uses es
+
+pub faults-Sequence : (line : ℕ) (scope : Scope) (es : List Expr) → expr_faults line scope (Sequence (record { members = es })) ≡ flat_map (expr_faults line scope) es
+faults-Sequence line scope es = ap (flat_map (unknown line scope)) (uses-Sequence es) ∙ flat_map-twice (unknown line scope) uses es
+
+-- ---- one line more
+
+both_parts : (o : Option Numbered) (line : ℕ) (s : Statement) → IsSomeAnd o (λ n. line ≡ n.line) → IsSomeAnd o (λ n. s ≡ n.statement) → o ≡ Some (record { line = line; statement = s })
+both_parts None line s at at_s = absurd at
+both_parts (Some n) line s at at_s = ap₂ (λ l t. Some (record { line = l; statement = t })) (sym at) (sym at_s)
+
+module _ (ss : List Numbered) (i line : ℕ) (s : Statement) (scope : Scope) (whole : List NameFault)
+    (at : IsSomeAnd (slice_get ss i) (λ n. line ≡ n.line)) (at_s : IsSomeAnd (slice_get ss i) (λ n. s ≡ n.statement)) (so_far : whole ≡ faults_from scope (drop i ss)) where
+  here : slice_get ss i ≡ Some (record { line = line; statement = s })
+  here = both_parts (slice_get ss i) line s at at_s
+
+  parts : whole ≡ statement_faults line scope s ++ faults_from (scope_after scope s) (drop (i + 1) ss)
+  parts = so_far ∙ ap (faults_from scope) (next ss i (record { line = line; statement = s }) (record { line = line; statement = s }) (slice_get_within ss i _ here) (sym (get_or_from_slice_get ss i _ _ here)))
+
+  pub line_passes : (new : Scope) → statement_faults line scope s ≡ [] → new ≡ scope_after scope s → whole ≡ faults_from new (drop (i + 1) ss)
+  line_passes new none is = parts ∙ ap (λ fs. fs ++ faults_from (scope_after scope s) (drop (i + 1) ss)) none ∙ ap (λ x. faults_from x (drop (i + 1) ss)) (sym is)
+
+  pub line_faulty : (f : NameFault) → IsFirst (statement_faults line scope s) f → IsFirst whole f
+  line_faulty f h = first_in whole (statement_faults line scope s) (faults_from (scope_after scope s) (drop (i + 1) ss)) f parts h
