@@ -10,3 +10,4 @@ pub mod PartialLemmas
 pub mod ChangeLemmas
 pub mod NamedLemmas
 pub mod NamingLemmas
+pub mod WritingLemmas

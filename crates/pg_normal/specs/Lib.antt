@@ -5,3 +5,4 @@ pub mod Sound
 pub mod Changes
 pub mod Instances
 pub mod Naming
+pub mod Writing

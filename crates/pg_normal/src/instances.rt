@@ -41,7 +41,7 @@ impl From<Memory> for InstanceFault {
 }
 
 /// Bit k of a word.
-fn is_set(word: u8, k: u8) -> bool
+pub(crate) fn is_set(word: u8, k: u8) -> bool
     requires { k < 8 }
     ensures { result ≡ bit word k }
 {
@@ -49,7 +49,7 @@ fn is_set(word: u8, k: u8) -> bool
 }
 
 /// The value under valuation n.
-fn value_at(table: Table, n: u8) -> bool
+pub(crate) fn value_at(table: Table, n: u8) -> bool
     requires { n < 64 }
     ensures { result ≡ bit table.0 n }
 {

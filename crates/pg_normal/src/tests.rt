@@ -1,4 +1,5 @@
-use crate::{InstanceFault, NameFault, NormalForm, Partial, check_names, instance};
+use crate::{InstanceFault, NameFault, NormalForm, Partial, check_names, instance, write_form};
+use cpog_base::{Memory, Names};
 use pg_algebra::Table;
 use pg_text::read_file;
 use std::alloc::Global;
@@ -100,4 +101,29 @@ fn the_first_fault_of_names_is_told(rt: HostRuntime) {
             "params p\nscenario s = a with p = 1\nscenario t = a with p = 0\n"
         )
     );
+}
+
+fn names_of(alloc: Global, texts: &[&str]) -> Result<Names, Memory> {
+    let mut names = Names::new(alloc);
+    'texts: for text in texts.iter() {
+        if names.len() < 64 {
+            names.insert(text)?;
+        }
+    }
+    Ok(names)
+}
+
+fn text_of(alloc: Global, form: &NormalForm) -> Result<Vec<u8>, Memory> {
+    let names = names_of(alloc, &["a"])?;
+    let params = names_of(alloc, &["x", "y"])?;
+    write_form(alloc, form, &names, &params)
+}
+
+#[test]
+fn a_condition_is_written_by_valuations(rt: HostRuntime) -> Result<(), Fail> {
+    let mut form = NormalForm::new(rt.alloc());
+    form.add_vertex(0, Table(0xEEEE_EEEE_EEEE_EEEE))?;
+    let text = text_of(rt.alloc(), &form)?;
+    assert_eq!(rt; text.as_slice(), "[x & !y | !x & y | x & y] a".as_bytes());
+    Ok(())
 }

@@ -1,0 +1,6 @@
+use Rattle.std.specs.Prelude.{◌≡◌, ◌++◌, map, take, codes}
+use Rattle.pg_normal.specs.Writing.{joined, valuation_text}
+use Rattle.pg_normal.proofs.writing.put_valuations.Given as goal
+
+abbrev pub invariant-valuations : goal.invariant-valuations
+invariant-valuations l = l.out.items ≡ l.initial.out.items ++ joined (codes " | ") (map (valuation_text l.params l.numbers) (take l.i l.valuations))
