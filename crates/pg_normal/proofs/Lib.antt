@@ -11,3 +11,10 @@ pub mod ChangeLemmas
 pub mod NamedLemmas
 pub mod NamingLemmas
 pub mod WritingLemmas
+pub mod ListingLemmas
+pub mod StatementLemmas
+pub mod LineLemmas
+pub mod TextLaws
+pub mod FaultLaws
+pub mod BoundLemmas
+pub mod UnitedLemmas

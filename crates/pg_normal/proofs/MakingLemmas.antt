@@ -169,6 +169,7 @@ pub form_of_tables_is : (t : Tables) (f : Form) → IsForm f
     → map (λ e. e.0) f.vertices ≡ filter (λ v. sometimes (bit (slice_index t.vertices v))) t.order
     → IsFormOf (graph_of_tables t) t.order f
 form_of_tables_is t f is vertices arcs order = record {
+  normal = is;
   graph = λ n h. same_graph _ _ (λ v. vertices v n h) (λ u v. ap (λ x. bit x n) (arcs u v));
   vertices = order;
   arcs = λ u v. found (is_arc u v) f.arcs is.some_arc ∙ ap (λ x. sometimes (bit x)) (arcs u v);
@@ -181,6 +182,7 @@ filter-same p q same (x ∷ xs) = ap₂ (λ b rest. cond b (x ∷ rest) rest) (s
 -- the form of the same graphs in the same order
 pub form_same : (old new : ℕ → Graph) (order places : List ℕ) (f : Form) → ((n : ℕ) → n < 64 → old n ≡ new n) → order ≡ places → IsFormOf old order f → IsFormOf new places f
 form_same old new order places f same is form = record {
+  normal = form.normal;
   graph = λ n h. form.graph n h ∙ same n h;
   vertices = form.vertices
       ∙ ap (filter (λ v. sometimes (λ n. (old n).vertex v))) is

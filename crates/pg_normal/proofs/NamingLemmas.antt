@@ -23,7 +23,7 @@ use Rattle.pg_text.specs.declared.statement.Numbered.{Numbered}
 use Rattle.pg_normal.specs.declared.naming.Scope.{Scope}
 use Rattle.pg_normal.specs.declared.naming.NameFault.{NameFault}
 use Rattle.pg_normal.specs.declared.naming.NameFault.TheVariants as fault
-use Rattle.pg_normal.specs.Naming.{param_used, uses, unknown_param, unknown, expr_faults, statement_faults, scope_after, faults_from, first, IsFirst}
+use Rattle.pg_normal.specs.Naming.{param_used, uses, unknown_param, unknown, expr_faults, statement_faults, scope_after, scope_from, faults_from, first, IsFirst}
 
 alone : (b : Bool) → (b && true) ≡ b
 alone true = refl
@@ -114,3 +114,11 @@ module _ (ss : List Numbered) (i line : ℕ) (s : Statement) (scope : Scope) (wh
 
   pub line_faulty : (f : NameFault) → IsFirst (statement_faults line scope s) f → IsFirst whole f
   line_faulty f h = first_in whole (statement_faults line scope s) (faults_from (scope_after scope s) (drop (i + 1) ss)) f parts h
+
+pub line_defines : (ss : List Numbered) (i line : ℕ) (s : Statement) (scope whole : Scope)
+    → IsSomeAnd (slice_get ss i) (λ n. line ≡ n.line) → IsSomeAnd (slice_get ss i) (λ n. s ≡ n.statement) → whole ≡ scope_from scope (drop i ss)
+    → (new : Scope) → new ≡ scope_after scope s → whole ≡ scope_from new (drop (i + 1) ss)
+line_defines ss i line s scope whole at at_s so_far new is =
+    let there = both_parts (slice_get ss i) line s at at_s in
+    so_far ∙ ap (scope_from scope) (next ss i (record { line = line; statement = s }) (record { line = line; statement = s }) (slice_get_within ss i _ there) (sym (get_or_from_slice_get ss i _ _ there)))
+    ∙ ap (λ x. scope_from x (drop (i + 1) ss)) (sym is)

@@ -21,7 +21,7 @@ all-get P [] i d all h = absurd (omega arith)
 all-get P (x ∷ xs) zero d all h = all.0
 all-get P (x ∷ xs) (suc i) d all h = all-get P xs i d all.1 (omega arith)
 
-all-at : {X : Type 0} (P : X → Type 0) (xs : List X) (i : ℕ) (x : X) → AllByRecursion P xs → slice_get xs i ≡ Some x → P x
+pub all-at : {X : Type 0} (P : X → Type 0) (xs : List X) (i : ℕ) (x : X) → AllByRecursion P xs → slice_get xs i ≡ Some x → P x
 all-at P xs i x all is = subst P (get_or_from_slice_get xs i x x is) (all-get P xs i x all (slice_get_within xs i x is))
 
 named-over : (count : ℕ) (tables : List Tables) (place : Option ℕ) (t : Tables) → AllByRecursion (IsOver count) tables → tables_at tables place ≡ Some t → IsOver count t

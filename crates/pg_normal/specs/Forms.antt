@@ -59,6 +59,7 @@ sometimes holds = any_below holds 64
 
 -- the form of a graph under each valuation: of the operations in their order, those that occur under some valuation, and the arcs that do
 pub record IsFormOf (graphs : ℕ → Graph) (order : List ℕ) (f : Form) : Type 0 where
+  pub normal : IsForm f
   pub graph : (n : ℕ) → n < 64 → graph_at f n ≡ graphs n
   pub vertices : map (λ e. e.0) f.vertices ≡ filter (λ v. sometimes (λ n. (graphs n).vertex v)) order
   pub arcs : (u v : ℕ) → list_any (is_arc u v) (map (λ e. e.0) f.arcs) ≡ sometimes (λ n. (graphs n).arc u v)

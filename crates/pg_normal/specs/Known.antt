@@ -63,3 +63,16 @@ pub record IsKnown (count : ℕ) (known : Known) : Type 0 where
   pub few : length known.params ≤ 6
   pub each : length known.tables ≡ length known.graphs
   pub over : AllByRecursion (IsOver count) known.tables
+
+-- under these valuations the arcs of the first are among those of the second
+abbrev pub AreThere : ℕ → List (List ℕ) → List (List ℕ) → Type 0
+AreThere among some arcs = (u v n : ℕ) → n < 64 → bit among n ≡ true → bit (entry some u v) n ≡ true → bit (entry arcs u v) n ≡ true
+
+-- a table for each graph that is known: under its valuations the arcs of the graph are there
+pub record AreUnited (known : Known) (united : List ℕ) (arcs : List (List ℕ)) : Type 0 where
+  pub each : length united ≡ length known.tables
+  pub there : (i : ℕ) (t : Tables) → slice_get known.tables i ≡ Some t → AreThere (slice_index united i) t.arcs arcs
+
+-- there is an arc from each vertex of the first row to each of the second, under the valuations of both
+abbrev pub AreJoined : List ℕ → List ℕ → List (List ℕ) → Type 0
+AreJoined before joined arcs = (u v n : ℕ) → n < 64 → bit (slice_index before u) n ≡ true → bit (slice_index joined v) n ≡ true → bit (entry arcs u v) n ≡ true

@@ -5,4 +5,7 @@ pub mod Sound
 pub mod Changes
 pub mod Instances
 pub mod Naming
+pub mod Listed
+pub mod Normals
 pub mod Writing
+pub mod Listing

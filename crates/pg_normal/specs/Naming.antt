@@ -43,6 +43,11 @@ scope_after scope (statement.Params names) = record { params = scope.params ++ n
 scope_after scope (statement.Graph name e) = record { params = scope.params; graphs = scope.graphs ++ name ∷ []; scenarios = scope.scenarios }
 scope_after scope (statement.Scenario name e bindings) = record { params = scope.params; graphs = scope.graphs; scenarios = scope.scenarios ++ name ∷ [] }
 
+-- all names that a list of lines defines
+abbrev pub scope_from : Scope → List Numbered → Scope
+scope_from scope [] = scope
+scope_from scope (s ∷ ss) = scope_from (scope_after scope s.statement) ss
+
 -- ---- faults, on a line of this number
 
 abbrev pub fault_if : Bool → NameFault → List NameFault

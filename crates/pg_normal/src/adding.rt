@@ -1,15 +1,16 @@
-//! The tables of an expression are made in one walk over its tree: a condition goes into the guard of what it governs, an earlier graph is united
-//! with what is there, and of a sequence what came before is one row of tables.
-ghost use Rattle.std.specs.Prelude.{◌≡◌, ◌<◌, ℕ, length, IsTrue, OnOk, IfOk};
+//! The tables of an expression are made in one walk over its tree: a condition goes into the guard of what it governs, an
+//! earlier graph is united with what is there, which is remembered, so that a graph that is named again and again is
+//! united once, and of a sequence what came before is one row of tables.
+ghost use Rattle.std.specs.Prelude.{◌≡◌, ◌<◌, ℕ, length, slice_get, IsTrue, OnOk, IfOk};
 ghost use Rattle.cpog_defs.specs.Codes.{bit};
 ghost use Rattle.pg_algebra.specs.Graphs.{overlay, when};
 ghost use Rattle.pg_algebra.specs.Conditions.{valuation};
 ghost use Rattle.pg_algebra.specs.Meaning.{graph_of};
 ghost use Rattle.pg_normal.specs.Appearing.{appearing, first_appearing, with_numbers};
-ghost use Rattle.pg_normal.specs.Known.{IsKnown, IsOver, IsSquare, graph_of_rows, graph_of_tables, graphs_known, orders_known};
+ghost use Rattle.pg_normal.specs.Known.{AreUnited, IsKnown, IsOver, IsSquare, graph_of_rows, graph_or_empty, graph_of_tables, graphs_known, orders_known};
 ghost use Rattle.pg_normal.specs.Sound.{is_sound};
 
-use crate::tables::{join, unite_rows, zero_rows};
+use crate::tables::{join_once, take_up, unite_rows, zero_rows};
 use crate::{Known, Order, Row, Tables};
 use cpog_base::Memory;
 use pg_algebra::{Expr, Table, table_of};
@@ -43,6 +44,34 @@ fn note(expr: &Expr, known: &Known, order: &mut Order) -> Result<(), Memory>
     }
 }
 
+/// Adds the graph of an earlier line, where the guard is 1, and its arcs only where they are not there yet.
+fn add_earlier(
+    known: &Known,
+    place: usize,
+    guard: Table,
+    vertices: &mut Row,
+    arcs: &mut [Row],
+    united: &mut Row,
+)
+    requires known { IsKnown (length arcs.old) known.now }
+    requires place { place < length known.now.tables }
+    requires vertices { length vertices.old ≡ length arcs.old }
+    requires square { IsSquare (length arcs.old) arcs.old }
+    requires united { AreUnited known.now united.old arcs.old }
+    ensures vertices { length vertices.new ≡ length arcs.old }
+    ensures square { IsSquare (length arcs.old) arcs.new }
+    ensures united { AreUnited known.now united.new arcs.new }
+    ensures graph { (n : ℕ) → n < 64 → graph_of_rows vertices.new arcs.new n ≡ overlay (graph_of_rows vertices.old arcs.old n) (when (bit guard.0 n) (graph_or_empty n (slice_get known.now.tables place))) }
+{
+    let tables = &known.tables.as_slice()[place];
+    vertices.unite(&tables.vertices, guard);
+    let left = guard.and(Table(united.get(place)).not());
+    if left.0 != 0 {
+        unite_rows(arcs, tables.arcs.as_slice(), guard);
+        united.add(place, guard);
+    }
+}
+
 /// Adds the graph of an expression, where the guard is 1.
 fn add(
     alloc: Global,
@@ -51,13 +80,16 @@ fn add(
     known: &Known,
     vertices: &mut Row,
     arcs: &mut [Row],
+    united: &mut Row,
 ) -> Result<(), Memory>
     requires known { IsKnown (length arcs.old) known.now }
     requires sound { IsTrue (is_sound (length arcs.old) known.now.params expr.now) }
     requires vertices { length vertices.old ≡ length arcs.old }
     requires square { IsSquare (length arcs.old) arcs.old }
+    requires united { AreUnited known.now united.old arcs.old }
     ensures vertices { length vertices.new ≡ length arcs.old }
     ensures square { IsSquare (length arcs.old) arcs.new }
+    ensures united { OnOk result (AreUnited known.now united.new arcs.new) }
     ensures graph { OnOk result ((n : ℕ) → n < 64 → graph_of_rows vertices.new arcs.new n ≡ overlay (graph_of_rows vertices.old arcs.old n) (when (bit guard.0 n) (graph_of (graphs_known known.now n) (valuation known.now.params n) expr.now))) }
 {
     match expr {
@@ -67,30 +99,39 @@ fn add(
             Ok(())
         }
         Expr::Graph(name) => {
-            if let Some(tables) = known.find(name.as_str()) {
-                vertices.unite(&tables.vertices, guard);
-                unite_rows(arcs, tables.arcs.as_slice(), guard);
+            if let Some(place) = known.graphs.find(name.as_str()) {
+                add_earlier(known, place as usize, guard, vertices, arcs, united);
             }
             Ok(())
         }
         Expr::When(cond, inner) => {
             let table = table_of(cond.get(), &known.params).unwrap();
-            add(alloc, inner.get(), guard.and(table), known, vertices, arcs)
+            add(
+                alloc,
+                inner.get(),
+                guard.and(table),
+                known,
+                vertices,
+                arcs,
+                united,
+            )
         }
         Expr::Overlay(list) => {
             'over: for member in list.members() {
-                add(alloc, member, guard, known, vertices, arcs)?;
+                add(alloc, member, guard, known, vertices, arcs, united)?;
             }
             Ok(())
         }
         Expr::Sequence(list) => {
             let mut before = Row::zeros(alloc, arcs.len())?;
+            // a vertex is joined where it has an arc from each that came before
+            let mut joined = Row::zeros(alloc, arcs.len())?;
             let mut here = Row::zeros(alloc, arcs.len())?;
             'line: for member in list.members() {
                 here.clear();
-                add(alloc, member, guard, known, &mut here, arcs)?;
-                join(arcs, &before, &here);
-                before.unite(&here, Table::constant(true));
+                add(alloc, member, guard, known, &mut here, arcs, united)?;
+                join_once(arcs, &before, &mut joined, &here);
+                take_up(&mut before, &mut joined, &here);
             }
             vertices.unite(&before, Table::constant(true));
             Ok(())
@@ -117,6 +158,8 @@ pub(crate) fn tables_of(
 {
     let mut vertices = Row::zeros(alloc, count)?;
     let mut arcs = zero_rows(alloc, count)?;
+    // for each earlier graph, where its arcs are there already
+    let mut united = Row::zeros(alloc, known.tables.len())?;
     add(
         alloc,
         expr,
@@ -124,6 +167,7 @@ pub(crate) fn tables_of(
         known,
         &mut vertices,
         &mut arcs,
+        &mut united,
     )?;
     let mut order = Order::new(alloc);
     note(expr, known, &mut order)?;

@@ -1,13 +1,11 @@
 //! A scenario is the graph of its form where the bound parameters have their bits, which no other parameter may change.
-ghost use Rattle.std.specs.Prelude.{◌≡◌, ◌≢◌, ◌<◌, ◌≤◌, ◌⊎◌, ◌==◌, ◌||◌, ◌&&◌, ◌↔◌, ℕ, true, false, nat_lt, IfOk, IfErr, OnOk, MatchOption, if◌then◌else◌};
+ghost use Rattle.std.specs.Prelude.{◌≡◌, ◌<◌, ◌≤◌, ◌⊎◌, ◌==◌, ◌||◌, ◌&&◌, ◌↔◌, ℕ, true, false, IfOk, IfErr, OnOk, MatchOption, if◌then◌else◌};
 ghost use Rattle.std.specs.Bool.{MatchBool};
-ghost use Rattle.std.specs.List.{AllByRecursion};
 ghost use Rattle.std.specs.FinSet as set;
 ghost use Rattle.cpog_base.specs.Arcs.{has_arc};
 ghost use Rattle.cpog_defs.specs.Codes.{bit};
-ghost use Rattle.pg_algebra.specs.Tables.{flip};
 ghost use Rattle.pg_normal.specs.Forms.{vertex_table, arc_table, graph_at, sometimes, IsForm};
-ghost use Rattle.pg_normal.specs.Instances.{Agrees, ChangesGraph, IsInstance, IsInstanceFault, IsScenarioOf, IsUnbound};
+ghost use Rattle.pg_normal.specs.Instances.{Agrees, IsInstance, IsInstanceFault, IsScenarioOf, IsUnbound};
 ghost use Rattle.pg_normal.specs.Changes.{Differs, Keeps, KeepsVertices, KeepsArcsFrom, KeepsGraph, VertexDiffers, ArcDiffers, IsBelow};
 ghost use Rattle.pg_normal.specs.declared.instances.InstanceFault.TheVariants as fault;
 

@@ -2,16 +2,22 @@
 //! arcs of an expression, each with a table of the valuations under which it occurs (`form`). A form is made of tables
 //! for all operations and pairs by their numbers (`row`, `tables`, `adding`, `order`, `making`), which the graphs of
 //! earlier lines keep (`known`), gives a scenario where the bindings leave no choice (`instances`), and is written as a
-//! sum of its terms, each behind its condition (`writing`). It stands above `pg_algebra` and below what turns the
-//! statements of a text into scenarios. It promises that a form is the expression's graph under every valuation, with the
-//! operations in the order of their first appearance, that a scenario is the graph under every valuation that agrees with
-//! its bindings, and that the text of a form is the one of its vertices, arcs and tables.
+//! sum of its terms, each behind its condition (`writing`). The names of a file are checked (`naming`), its forms are
+//! made statement by statement (`listing`), and written a line for each (`lines`). It stands above `pg_text` and below
+//! what turns the statements of a text into scenarios. It promises that a form is the expression's graph under every
+//! valuation, with the operations in the order of their first appearance, that a scenario is the graph under every
+//! valuation that agrees with its bindings, that the text of a form is the one of its vertices, arcs and tables, that
+//! the forms of a file are those of its graphs and scenarios where its names are in order and otherwise the first fault
+//! is told, and that a file has one text of forms (`laws`).
 #![tactic(auto)]
 
 mod adding;
 mod form;
 mod instances;
 mod known;
+mod laws;
+mod lines;
+mod listing;
 mod making;
 mod naming;
 mod order;
@@ -24,6 +30,9 @@ mod writing;
 pub use form::NormalForm;
 pub use instances::{InstanceFault, Partial, instance};
 pub use known::Known;
+pub use laws::{forms_have_no_fault, one_name_fault, one_normal_text};
+pub use lines::write_normal;
+pub use listing::{NormalList, normals};
 pub use making::{form_of, with_graph};
 pub(crate) use naming::Scope;
 pub use naming::{NameFault, check_names};

@@ -1,12 +1,12 @@
 //! A normal form is made of tables: the vertices in the order of their first appearance, and then the arcs, without those that never occur.
-ghost use Rattle.std.specs.Prelude.{◌≡◌, ◌<◌, ◌==◌, ℕ, false, List, [], IsTrue, IfOk, OnOk, if◌then◌else◌, filter, map, slice_index, true};
+ghost use Rattle.std.specs.Prelude.{◌≡◌, ◌<◌, ◌==◌, ◌++◌, ◌∷◌, ℕ, false, List, [], IsTrue, IfOk, OnOk, if◌then◌else◌, filter, map, slice_index};
 ghost use Rattle.std.specs.Str.{bytes_eq};
 ghost use Rattle.cpog_base.specs.Names.{has_text};
 ghost use Rattle.cpog_defs.specs.Codes.{bit};
 ghost use Rattle.pg_algebra.specs.Conditions.{valuation};
 ghost use Rattle.pg_algebra.specs.Meaning.{graph_of};
 ghost use Rattle.pg_normal.specs.Appearing.{has, first_appearing};
-ghost use Rattle.pg_normal.specs.Forms.{vertex_table, arc_table, graph_at, sometimes, IsFormOf};
+ghost use Rattle.pg_normal.specs.Forms.{vertex_table, arc_table, sometimes, IsFormOf};
 ghost use Rattle.pg_normal.specs.Known.{IsKnown, IsOver, entry, graph_of_tables, graphs_known, orders_known};
 ghost use Rattle.pg_normal.specs.Sound.{is_sound};
 
@@ -112,6 +112,7 @@ pub fn with_graph(
     ensures form { IfOk result (λ r. IsFormOf (λ n. graph_of (graphs_known known n) (valuation known.params n) expr.now) (first_appearing (orders_known known) expr.now) r.1) }
     ensures known { IfOk result (λ r. IsKnown count r.0) }
     ensures params { IfOk result (λ r. r.0.params ≡ known.params) }
+    ensures names { IfOk result (λ r. r.0.graphs ≡ known.graphs ++ name.now ∷ []) }
     ensures graphs { IfOk result (λ r. (n : ℕ) (other : List ℕ) → n < 64 → graphs_known r.0 n other ≡ (if bytes_eq other name.now then graph_of (graphs_known known n) (valuation known.params n) expr.now else graphs_known known n other)) }
     ensures orders { IfOk result (λ r. (other : List ℕ) → orders_known r.0 other ≡ (if bytes_eq other name.now then first_appearing (orders_known known) expr.now else orders_known known other)) }
 {

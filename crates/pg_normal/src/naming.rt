@@ -1,16 +1,16 @@
 //! Names are checked line by line, and within a line as they are written: what a line uses is looked up among the names
 //! of the lines before, and what it defines must be new.
-ghost use Rattle.std.specs.Prelude.{◌≡◌, ◌++◌, ◌∷◌, [], map, IfErr, OnOk};
+ghost use Rattle.std.specs.Prelude.{◌≡◌, ◌++◌, ◌∷◌, [], IfErr, IfOk, OnOk};
 ghost use Rattle.std.specs.List.{flat_map};
 ghost use Rattle.cpog_base.specs.Names.{has_text, with_text};
 ghost use Rattle.pg_algebra.specs.Conditions.{params_of};
 ghost use Rattle.pg_normal.specs.declared.naming.NameFault.TheVariants as fault;
-ghost use Rattle.pg_normal.specs.Naming.{again, all_again, unknown_param, unknown_graph, expr_faults, binding_faults, statement_faults, name_faults, nothing, scope_after, IsFirst, IsNameFault};
+ghost use Rattle.pg_normal.specs.Naming.{again, all_again, unknown_param, unknown_graph, expr_faults, binding_faults, statement_faults, name_faults, nothing, scope_after, scope_from, IsFirst, IsNameFault};
 
 use cpog_base::{Memory, Name, Names};
 use pg_algebra::{Cond, Expr};
 use pg_text::{File, Statement};
-use std::alloc::Global;
+use std::alloc::{AllocFailed, Global};
 
 /// Why the names of a file are not in order.
 #[derive(Debug, Drop)]
@@ -23,6 +23,14 @@ pub enum NameFault {
     UnknownParam { line: u32, name: Name },
     /// No memory was left.
     Memory,
+}
+
+impl<T: Drop> From<AllocFailed<T>> for NameFault {
+    ghost from_gives = { λ _ e. e ≡ fault.Memory };
+
+    fn from(_error: AllocFailed<T>) -> NameFault {
+        NameFault::Memory
+    }
 }
 
 impl From<Memory> for NameFault {
@@ -221,13 +229,10 @@ fn enter(
     }
 }
 
-/// Tells the first fault of the names in a file, by line, and within a line by place.
-///
-/// # Errors
-///
-/// `Duplicate`, `UnknownGraph` or `UnknownParam` with the number of the line and the name; `Memory` where none is left.
-pub fn check_names(alloc: Global, file: &File) -> Result<(), NameFault>
-    ensures ok { OnOk result (name_faults file.now ≡ []) }
+/// The names that a file defines, or the first fault.
+pub(crate) fn scope_of(alloc: Global, file: &File) -> Result<Scope, NameFault>
+    ensures ok { IfOk result (λ _. name_faults file.now ≡ []) }
+    ensures scope { IfOk result (λ scope. scope ≡ scope_from nothing file.now.statements) }
     ensures err { IfErr result (IsNameFault file.now) }
 {
     let mut scope = Scope {
@@ -238,5 +243,18 @@ pub fn check_names(alloc: Global, file: &File) -> Result<(), NameFault>
     'statements: for i in 0..file.len() {
         enter(alloc, file.line(i), &mut scope, file.statement(i))?;
     }
+    Ok(scope)
+}
+
+/// Tells the first fault of the names in a file, by line, and within a line by place.
+///
+/// # Errors
+///
+/// `Duplicate`, `UnknownGraph` or `UnknownParam` with the number of the line and the name; `Memory` where none is left.
+pub fn check_names(alloc: Global, file: &File) -> Result<(), NameFault>
+    ensures ok { OnOk result (name_faults file.now ≡ []) }
+    ensures err { IfErr result (IsNameFault file.now) }
+{
+    scope_of(alloc, file)?;
     Ok(())
 }

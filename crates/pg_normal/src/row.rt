@@ -1,5 +1,5 @@
 //! A row has a table for each operation.
-ghost use Rattle.std.specs.Prelude.{◌≡◌, ◌<◌, ◌&&◌, ◌||◌, ℕ, IfOk, length, replicate, slice_index, bit_or, bit_and};
+ghost use Rattle.std.specs.Prelude.{◌≡◌, ◌<◌, ◌&&◌, ◌||◌, ℕ, true, IfOk, length, replicate, slice_index, bit_or, bit_and};
 ghost use Rattle.cpog_defs.specs.Codes.{bit};
 
 use cpog_base::Memory;
@@ -62,6 +62,20 @@ impl Row {
             Some(table) => *table,
             None => 0,
         }
+    }
+
+    /// Whether each table of another row is 1 only where this row's is.
+    pub(crate) fn covers(&self, other: &Row) -> bool
+        requires { length other.now ≡ length self.now }
+        ensures { result ≡ true → (k n : ℕ) → n < 64 → bit (slice_index other.now k) n ≡ true → bit (slice_index self.now k) n ≡ true }
+    {
+        'places: for i in 0..self.tables.len() {
+            let left = Table(other.get(i)).and(Table(self.get(i)).not());
+            if left.0 != 0 {
+                return false;
+            }
+        }
+        true
     }
 
     /// Makes each table 0.

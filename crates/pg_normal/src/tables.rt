@@ -1,7 +1,7 @@
 //! A graph under all valuations at once, with a table for each operation and each pair, by their numbers.
-ghost use Rattle.std.specs.Prelude.{◌≡◌, ◌<◌, ◌&&◌, ◌||◌, ℕ, [], length, slice_index, IfOk, false};
+ghost use Rattle.std.specs.Prelude.{◌≡◌, ◌<◌, ◌&&◌, ◌||◌, ℕ, List, length, slice_index, IfOk, false};
 ghost use Rattle.cpog_defs.specs.Codes.{bit};
-ghost use Rattle.pg_normal.specs.Known.{IsSquare, entry};
+ghost use Rattle.pg_normal.specs.Known.{AreJoined, IsSquare, entry};
 
 use crate::{Order, Row};
 use cpog_base::Memory;
@@ -43,6 +43,40 @@ pub(crate) fn join(arcs: &mut [Row], before: &Row, here: &Row)
             arcs[v].unite(before, Table(table));
         }
     }
+}
+
+/// Adds an arc from each vertex of the first row to each of the last, if they are not joined yet.
+pub(crate) fn join_once(arcs: &mut [Row], before: &Row, joined: &mut Row, here: &Row)
+    requires square { IsSquare (length arcs.old) arcs.old }
+    requires before { length before.now ≡ length arcs.old }
+    requires row { length joined.old ≡ length arcs.old }
+    requires here { length here.now ≡ length arcs.old }
+    requires joined { AreJoined before.now joined.old arcs.old }
+    ensures square { IsSquare (length arcs.old) arcs.new }
+    ensures row { length joined.new ≡ length arcs.old }
+    ensures joined { AreJoined before.now joined.new arcs.new }
+    ensures each { (u v n : ℕ) → n < 64 → bit (entry arcs.new u v) n ≡ (bit (entry arcs.old u v) n || (bit (slice_index before.now u) n && bit (slice_index here.now v) n)) }
+{
+    if joined.covers(here) {
+        return;
+    }
+    join(arcs, before, here);
+    joined.unite(here, Table::constant(true));
+}
+
+/// Adds the vertices of the last row to the first. Nothing is joined any more where there is a new one.
+pub(crate) fn take_up(before: &mut Row, joined: &mut Row, here: &Row)
+    requires here { length here.now ≡ length before.old }
+    ensures len { length before.new ≡ length before.old }
+    ensures row { length joined.new ≡ length joined.old }
+    ensures each { (v n : ℕ) → n < 64 → bit (slice_index before.new v) n ≡ (bit (slice_index before.old v) n || bit (slice_index here.now v) n) }
+    ensures joined { (arcs : List (List ℕ)) → AreJoined before.old joined.old arcs → AreJoined before.new joined.new arcs }
+{
+    if before.covers(here) {
+        return;
+    }
+    before.unite(here, Table::constant(true));
+    joined.clear();
 }
 
 /// As many rows of zeros as each is long.

@@ -1,4 +1,7 @@
-use crate::{InstanceFault, NameFault, NormalForm, Partial, check_names, instance, write_form};
+use crate::{
+    InstanceFault, NameFault, NormalForm, Partial, check_names, instance, normals, write_form,
+    write_normal,
+};
 use cpog_base::{Memory, Names};
 use pg_algebra::Table;
 use pg_text::read_file;
@@ -126,4 +129,66 @@ fn a_condition_is_written_by_valuations(rt: HostRuntime) -> Result<(), Fail> {
     let text = text_of(rt.alloc(), &form)?;
     assert_eq!(rt; text.as_slice(), "[x & !y | !x & y | x & y] a".as_bytes());
     Ok(())
+}
+
+/// Whether the forms of a text are written so.
+fn is_written(alloc: Global, text: &str, want: &str) -> bool {
+    if text.len() > 1000 {
+        return false;
+    }
+    let Ok(file) = read_file(alloc, text.as_bytes()) else {
+        return false;
+    };
+    let Ok(list) = normals(alloc, &file) else {
+        return false;
+    };
+    match write_normal(alloc, &file, &list) {
+        Ok(written) => written.as_slice() == want.as_bytes(),
+        Err(Memory) => false,
+    }
+}
+
+#[test]
+fn the_forms_of_a_file_are_written(rt: HostRuntime) {
+    let alloc = rt.alloc();
+    assert!(rt;
+        is_written(
+            alloc,
+            "params x\nparams y # two\n\ngraph g = [x] a -> b\nscenario s = @g + [y] c -> a with y = 1, x = 0\nscenario t = [!x] (b + empty)",
+            "params x, y\ngraph g = [x] a + b + [x] (a -> b)\nscenario s = a + b + [y] c + [x] (a -> b) + [y] (c -> a) with y = 1, x = 0\nscenario t = [!x] b\n"
+        )
+    );
+    assert!(rt;
+        is_written(
+            alloc,
+            "scenario s = a -> b -> a\ngraph s = (c -> empty) + a\ngraph h = @s -> empty -> d\ngraph i = empty",
+            "scenario s = a + b + (a -> a) + (a -> b) + (b -> a)\ngraph s = c + a\ngraph h = c + a + d + (c -> d) + (a -> d)\ngraph i = empty\n"
+        )
+    );
+    assert!(rt; is_written(alloc, "# no statement\n", ""));
+}
+
+/// Whether the first form of a text has a scenario under the bindings of its statement.
+fn has_instance(alloc: Global, text: &str) -> bool {
+    if text.len() > 1000 {
+        return false;
+    }
+    let Ok(file) = read_file(alloc, text.as_bytes()) else {
+        return false;
+    };
+    let Ok(list) = normals(alloc, &file) else {
+        return false;
+    };
+    let count = file.operations().len();
+    if list.len() == 0 || count > 64 {
+        return false;
+    }
+    instance(alloc, list.form(0), list.bound(0), count as u8).is_ok()
+}
+
+#[test]
+fn bindings_leave_no_choice(rt: HostRuntime) {
+    let alloc = rt.alloc();
+    assert!(rt; has_instance(alloc, "params x, y\nscenario s = [x] a -> b with x = 0"));
+    assert!(rt; !has_instance(alloc, "params x, y\nscenario s = [x] a -> b with y = 0"));
 }

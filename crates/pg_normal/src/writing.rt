@@ -1,9 +1,9 @@
 //! A form is written as its terms, each behind the condition under which it occurs.
-ghost use Rattle.std.specs.Prelude.{◌≡◌, ◌++◌, ◌<◌, ℕ, [], codes, map, IfOk, OnOk};
+ghost use Rattle.std.specs.Prelude.{◌≡◌, ◌++◌, ◌<◌, [], codes, map, IfOk, OnOk};
 ghost use Rattle.std.specs.List.{flat_map};
 ghost use Rattle.std.proofs.Common.{get_or};
 ghost use Rattle.cpog_defs.specs.Codes.{bit};
-ghost use Rattle.pg_normal.specs.Forms.{vertex_table, arc_table, IsForm};
+ghost use Rattle.pg_normal.specs.Forms.{vertex_table, arc_table};
 ghost use Rattle.pg_normal.specs.Writing.{when_needed, following, joined, depends, needed, sets_needed, chosen, literal_text, valuation_text, valuations_text, prefix_text, arc_text, vertex_term, arc_terms, arc_terms_from, vertices_of, form_text};
 
 use crate::NormalForm;
@@ -13,7 +13,7 @@ use pg_algebra::Table;
 use std::alloc::Global;
 
 /// Puts the bytes last.
-fn put(out: &mut Vec<u8>, text: &[u8]) -> Result<(), Memory>
+pub(crate) fn put(out: &mut Vec<u8>, text: &[u8]) -> Result<(), Memory>
     ensures { OnOk result (out.new.items ≡ out.old.items ++ text.now) }
 {
     out.extend_from_slice(text)?;
@@ -21,14 +21,14 @@ fn put(out: &mut Vec<u8>, text: &[u8]) -> Result<(), Memory>
 }
 
 /// Puts the bytes last where they are needed.
-fn put_if(out: &mut Vec<u8>, is_needed: bool, text: &[u8]) -> Result<(), Memory>
+pub(crate) fn put_if(out: &mut Vec<u8>, is_needed: bool, text: &[u8]) -> Result<(), Memory>
     ensures { OnOk result (out.new.items ≡ out.old.items ++ when_needed is_needed text.now) }
 {
     if is_needed { put(out, text) } else { Ok(()) }
 }
 
 /// The name at a place, and nothing for a place without a name.
-fn name_of(names: &Names, place: u32) -> &str
+pub(crate) fn name_of(names: &Names, place: u32) -> &str
     ensures { result.now ≡ get_or names.now place [] }
 {
     if place < names.len() {
@@ -254,6 +254,22 @@ fn vertices_of(alloc: Global, form: &NormalForm) -> Result<Vec<u32>, Memory>
     Ok(vertices)
 }
 
+/// Puts the text of a form last.
+pub(crate) fn put_form(
+    alloc: Global,
+    out: &mut Vec<u8>,
+    form: &NormalForm,
+    names: &Names,
+    params: &Names,
+) -> Result<(), Memory>
+    ensures { OnOk result (out.new.items ≡ out.old.items ++ form_text form.now names.now params.now) }
+{
+    let vertices = vertices_of(alloc, form)?;
+    put_if(out, vertices.len() == 0, b"empty")?;
+    put_vertices(alloc, out, form, names, params, &vertices)?;
+    put_arcs(alloc, out, form, names, params, &vertices)
+}
+
 /// The text of a form: its vertices in their order and then its arcs, by the places of their first and then their second
 /// ends, each behind the valuations under which it occurs.
 ///
@@ -269,9 +285,6 @@ pub fn write_form(
     ensures { IfOk result (λ text. text.items ≡ form_text form.now names.now params.now) }
 {
     let mut out = Vec::new(alloc);
-    let vertices = vertices_of(alloc, form)?;
-    put_if(&mut out, vertices.len() == 0, b"empty")?;
-    put_vertices(alloc, &mut out, form, names, params, &vertices)?;
-    put_arcs(alloc, &mut out, form, names, params, &vertices)?;
+    put_form(alloc, &mut out, form, names, params)?;
     Ok(out)
 }

@@ -1,0 +1,93 @@
+-- The normal forms that a file asks for, and the parameters that its statements bind.
+use Rattle.std.specs.Prelude.{◌≡◌, ℕ, ◌<◌, ◌==◌, Bool, false, ◌&&◌, List, [], ◌∷◌, Option, Some, None, if◌then◌else◌}
+use Rattle.std.specs.List.{list_any}
+use Rattle.std.specs.Str.{bytes_eq}
+use Rattle.cpog_base.specs.Names.{place_of}
+use Rattle.cpog_defs.specs.Codes.{bit}
+use Rattle.pg_algebra.specs.Graphs.{empty}
+use Rattle.pg_algebra.specs.declared.expr.Expr.{Expr}
+use Rattle.pg_algebra.specs.Conditions.{valuation}
+use Rattle.pg_algebra.specs.Meaning.{Earlier, graph_of}
+use Rattle.pg_text.specs.declared.statement.Statement.{Statement}
+use Rattle.pg_text.specs.declared.statement.Statement.TheVariants as statement
+use Rattle.pg_text.specs.declared.statement.Numbered.{Numbered}
+use Rattle.pg_text.specs.Contents.{Contents}
+use Rattle.pg_normal.specs.declared.instances.Partial.{Partial}
+use Rattle.pg_normal.specs.declared.listing.Normal.{Normal}
+use Rattle.pg_normal.specs.Appearing.{first_appearing}
+use Rattle.pg_normal.specs.Forms.{IsFormOf}
+use Rattle.pg_normal.specs.Naming.{nothing, scope_from, name_faults}
+
+-- the parameters of a file, in the order of their definitions
+abbrev pub params_in : Contents → List (List ℕ)
+params_in f = (scope_from nothing f.statements).params
+
+-- ---- earlier graphs
+
+-- what earlier lines make of a name: its graph under each valuation by number, and its operations in order
+pub record Before : Type 0 where
+  pub graphs : ℕ → Earlier
+  pub orders : List ℕ → List ℕ
+
+abbrev pub none_before : Before
+none_before = record { graphs = λ n name. empty; orders = λ name. [] }
+
+-- with the graph of a statement under its name
+abbrev pub with_statement : List (List ℕ) → Before → Statement → Before
+with_statement params before (statement.Params names) = before
+with_statement params before (statement.Graph name e) = record {
+  graphs = λ n other. if bytes_eq other name then graph_of (before.graphs n) (valuation params n) e else before.graphs n other;
+  orders = λ other. if bytes_eq other name then first_appearing before.orders e else before.orders other;
+}
+with_statement params before (statement.Scenario name e bindings) = before
+
+-- ---- bindings
+
+-- whether this is the place
+abbrev pub is_place : ℕ → Option ℕ → Bool
+is_place k None = false
+is_place k (Some i) = i == k
+
+-- whether the parameter at place k is bound; is bound to 1
+abbrev pub binds : List (List ℕ) → List (List ℕ × Bool) → ℕ → Bool
+binds params bindings k = list_any (λ b. is_place k (place_of params b.0)) bindings
+
+abbrev pub binds_one : List (List ℕ) → List (List ℕ × Bool) → ℕ → Bool
+binds_one params bindings k = list_any (λ b. is_place k (place_of params b.0) && b.1) bindings
+
+-- bit k of the masks says whether parameter k is bound, and to what
+pub record IsBound (params : List (List ℕ)) (bindings : List (List ℕ × Bool)) (p : Partial) : Type 0 where
+  pub few : (p.fixed < 64) × (p.values < 64)
+  pub fixed : (k : ℕ) → bit p.fixed k ≡ binds params bindings k
+  pub values : (k : ℕ) → bit p.values k ≡ binds_one params bindings k
+
+-- ---- forms
+
+-- the form of an expression over earlier graphs under every valuation, and its bound parameters
+pub record IsNormal (params : List (List ℕ)) (before : Before) (e : Expr) (bindings : List (List ℕ × Bool)) (x : Normal) : Type 0 where
+  pub form : IsFormOf (λ n. graph_of (before.graphs n) (valuation params n) e) (first_appearing before.orders e) x.form
+  pub bound : IsBound params bindings x.bound
+
+-- the first of the list is such a form, and the rest follow
+pub record BeginsWithNormal (params : List (List ℕ)) (before : Before) (e : Expr) (bindings : List (List ℕ × Bool)) (xs : List Normal) (Rest : List Normal → Type 0) : Type 0 where
+  pub one : Normal
+  pub more : List Normal
+  pub whole : xs ≡ one ∷ more
+  pub is : IsNormal params before e bindings one
+  pub rest : Rest more
+
+-- a statement of parameters has no form, a graph's binds none
+abbrev pub StatementNormals : List (List ℕ) → Before → Statement → (List Normal → Type 0) → List Normal → Type 0
+StatementNormals params before (statement.Params names) Rest xs = Rest xs
+StatementNormals params before (statement.Graph name e) Rest xs = BeginsWithNormal params before e [] xs Rest
+StatementNormals params before (statement.Scenario name e bindings) Rest xs = BeginsWithNormal params before e bindings xs Rest
+
+-- one form for each graph and scenario of the lines, in their order
+abbrev pub AreNormals : List (List ℕ) → Before → List Numbered → List Normal → Type 0
+AreNormals params before [] xs = xs ≡ []
+AreNormals params before (s ∷ ss) xs = StatementNormals params before s.statement (AreNormals params (with_statement params before s.statement) ss) xs
+
+-- the forms of a file whose names are in order
+pub record AreNormalsOf (f : Contents) (xs : List Normal) : Type 0 where
+  pub names : name_faults f ≡ []
+  pub forms : AreNormals (params_in f) none_before f.statements xs

@@ -1,0 +1,137 @@
+//! The forms of a file are written a line for each graph and scenario, behind the line of the parameters.
+ghost use Rattle.std.specs.Prelude.{◌≡◌, ◌++◌, codes, map, IfOk, OnOk};
+ghost use Rattle.line_text.specs.Lines.{text_of};
+ghost use Rattle.pg_text.specs.Writing.{bit_text, bind_text, row_text, with_text};
+ghost use Rattle.pg_normal.specs.Listing.{params_lines, definition_text, normal_text};
+ghost use Rattle.pg_normal.specs.Normals.{params_in, AreNormalsOf};
+ghost use Rattle.pg_normal.specs.Writing.{form_text};
+
+use crate::naming::scope_of;
+use crate::writing::{name_of, put, put_form, put_if};
+use crate::{NormalForm, NormalList, Scope};
+use cpog_base::{Memory, Name, Names};
+use pg_text::{File, Statement};
+use std::alloc::Global;
+
+/// A bit as text.
+fn text_of_bit(bit: bool) -> &'static [u8]
+    ensures { result.now ≡ bit_text bit }
+{
+    if bit { b"1" } else { b"0" }
+}
+
+/// Puts names last with commas between them.
+fn put_names(out: &mut Vec<u8>, names: &Names) -> Result<(), Memory>
+    ensures { OnOk result (out.new.items ≡ out.old.items ++ row_text (codes ", ") names.now) }
+{
+    'names: for i in 0..names.len() {
+        put_if(out, i > 0, b", ")?;
+        put(out, name_of(names, i).as_bytes())?;
+    }
+    Ok(())
+}
+
+/// Puts the line of the parameters last, where there is one.
+fn put_params(out: &mut Vec<u8>, params: &Names) -> Result<(), Memory>
+    ensures { OnOk result (out.new.items ≡ out.old.items ++ text_of (params_lines params.now)) }
+{
+    if params.len() == 0 {
+        return Ok(());
+    }
+    put(out, b"params ")?;
+    put_names(out, params)?;
+    put(out, b"\n")
+}
+
+/// Puts a name, the sign of equality and a bit last.
+fn put_binding(out: &mut Vec<u8>, binding: &(Name, bool)) -> Result<(), Memory>
+    ensures { OnOk result (out.new.items ≡ out.old.items ++ bind_text binding.now) }
+{
+    let (name, bit) = binding;
+    put(out, name.as_str().as_bytes())?;
+    put(out, b" = ")?;
+    put(out, text_of_bit(*bit))
+}
+
+/// Puts bindings last with commas between them.
+fn put_bindings(out: &mut Vec<u8>, bindings: &[(Name, bool)]) -> Result<(), Memory>
+    ensures { OnOk result (out.new.items ≡ out.old.items ++ row_text (codes ", ") (map bind_text bindings.now)) }
+{
+    'bindings: for (i, binding) in bindings.iter().enumerate() {
+        put_if(out, i > 0, b", ")?;
+        put_binding(out, binding)?;
+    }
+    Ok(())
+}
+
+/// Puts `with` and the bindings last, where there is one.
+fn put_with(out: &mut Vec<u8>, bindings: &[(Name, bool)]) -> Result<(), Memory>
+    ensures { OnOk result (out.new.items ≡ out.old.items ++ with_text bindings.now) }
+{
+    put_if(out, !bindings.is_empty(), b" with ")?;
+    put_bindings(out, bindings)
+}
+
+/// Puts a keyword, a name, the sign of equality and a form last.
+fn put_definition(
+    alloc: Global,
+    out: &mut Vec<u8>,
+    keyword: &[u8],
+    name: &Name,
+    form: &NormalForm,
+    names: &Names,
+    params: &Names,
+) -> Result<(), Memory>
+    ensures { OnOk result (out.new.items ≡ out.old.items ++ definition_text keyword.now name.now (form_text form.now names.now params.now)) }
+{
+    put(out, keyword)?;
+    put(out, name.as_str().as_bytes())?;
+    put(out, b" = ")?;
+    put_form(alloc, out, form, names, params)
+}
+
+/// The parameters of a file whose names are in order.
+fn params_of(alloc: Global, file: &File) -> Result<Names, Memory>
+    ensures { IfOk result (λ params. params ≡ params_in file.now) }
+{
+    match scope_of(alloc, file) {
+        Ok(Scope { params, .. }) => Ok(params),
+        // Where names are in order only memory can be wanting.
+        Err(_) => Err(Memory),
+    }
+}
+
+/// The text of the forms of a file: the line of its parameters, and the line of each graph and scenario with its form.
+///
+/// # Errors
+///
+/// `Memory` where none is left.
+pub fn write_normal(alloc: Global, file: &File, normals: &NormalList) -> Result<Vec<u8>, Memory>
+    requires { AreNormalsOf file.now normals.now.normals }
+    ensures { IfOk result (λ text. text.items ≡ normal_text file.now normals.now.normals) }
+{
+    let params = params_of(alloc, file)?;
+    let names = file.operations();
+    let mut out = Vec::new(alloc);
+    put_params(&mut out, &params)?;
+    let mut place = 0;
+    'statements: for i in 0..file.len() {
+        match file.statement(i) {
+            Statement::Params { .. } => {}
+            Statement::Graph { name, .. } => {
+                let form = normals.form(place);
+                put_definition(alloc, &mut out, b"graph ", name, form, names, &params)?;
+                put(&mut out, b"\n")?;
+                place += 1;
+            }
+            Statement::Scenario { name, bindings, .. } => {
+                let form = normals.form(place);
+                put_definition(alloc, &mut out, b"scenario ", name, form, names, &params)?;
+                put_with(&mut out, bindings.as_slice())?;
+                put(&mut out, b"\n")?;
+                place += 1;
+            }
+        }
+    }
+    Ok(out)
+}
