@@ -1,6 +1,6 @@
 //! The graph text: from bytes to the file of statements that they spell, and from a file to its text (Mokhov and
 //! Khomenko 2014 have the algebra that its expressions write). It stands on the trees of `pg_algebra` and on the lines
-//! and words of `line_text`; no program reads by it yet.
+//! and words of `line_text`.
 //!
 //! Lines are split off the text (`lines`) and tokens are taken from the front of a line (`tokens`), so that no list of
 //! either is built. Out of tokens conditions (`conditions`), expressions (`expressions`), statements (`statements`) and

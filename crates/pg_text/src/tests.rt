@@ -2,6 +2,7 @@ use crate::{File, FileFault, Statement, read_file, write_file};
 use cpog_base::{Counted, Memory};
 use pg_algebra::{Cond, Expr};
 use std::alloc::Global;
+use std::process::Abort;
 
 /// `front`, then so many times `piece`, then `middle`, then so many times `back`.
 fn nested(
@@ -101,7 +102,8 @@ fn nesting_ends_at_100_levels(rt: HostRuntime) -> Result<(), Memory> {
             fault_of(rt.alloc(), bad.as_str()),
             Some(FileFault::BadLine(1))
         );
-        let mut deep = nested(rt.alloc(), front, piece, 300000, "", "")?;
+        let most = (1048576 - front.len() - end.len()) / piece.len();
+        let mut deep = nested(rt.alloc(), front, piece, most as u32, "", "")?;
         deep.push_str(end)?;
         assert_eq!(rt;
             fault_of(rt.alloc(), deep.as_str()),
@@ -111,22 +113,119 @@ fn nesting_ends_at_100_levels(rt: HostRuntime) -> Result<(), Memory> {
     Ok(())
 }
 
+/// Each line is bad on its own, and stands behind one that is good.
+fn are_bad(rt: &impl Abort, alloc: Global, lines: &[&str]) -> Result<(), Memory> {
+    for line in lines {
+        let text = nested(alloc, "params x, y\n", *line, 1, "\n", "")?;
+        assert_eq!(rt; fault_of(alloc, text.as_str()), Some(FileFault::BadLine(2)));
+    }
+    Ok(())
+}
+
 #[test]
 fn the_first_bad_line_is_told(rt: HostRuntime) {
     for (text, want) in [
         ("scenario A = a\n\nscenario A = a ->\nparams\n", 3),
-        ("scenario empty = b", 1),
-        ("code A 0101", 1),
-        ("scenario A = a - > b", 1),
-        ("scenario A = a with x = 2", 1),
-        ("graph g = a with x = 0", 1),
-        ("params x,", 1),
-        ("scenario A = [x | y & ] a", 1),
-        ("scenario A = a\rscenario B = b", 1),
-        ("scenario A = n23456789012345678901234567890123", 1),
+        ("# a comment\nscenario B = b\nscenario A = a ->", 3),
+        ("scenario A = a\nscenario B =\nscenario C\n", 2),
+        ("scenario A = a -> a\nnothing\n", 2),
+        ("scenario A = a\n\nscenario B = b +", 3),
     ] {
         assert_eq!(rt; fault_of(rt.alloc(), text), Some(FileFault::BadLine(want)));
     }
+}
+
+#[test]
+fn bad_statements_are_told(rt: HostRuntime) -> Result<(), Memory> {
+    are_bad(
+        &rt,
+        rt.alloc(),
+        &[
+            "nothing",
+            "Scenario A = a",
+            "scenarioA = a",
+            "scenario A a",
+            "scenario A == a",
+            "scenario A = ",
+            "scenario A = # a",
+            "scenario with = a",
+            "scenario empty = b",
+            "graph graph = a",
+            "code A = 1",
+            "params",
+            "params x y",
+            "params x,",
+            "params = x",
+            "graph g = [x] a with x = 0",
+            "scenario A = [x] a with",
+            "scenario A = [x] a with x = 2",
+            "scenario A = [x] a with x = y",
+            "scenario A = [x & y] a with x = 1 y = 1",
+        ],
+    )
+}
+
+#[test]
+fn bad_expressions_are_told(rt: HostRuntime) -> Result<(), Memory> {
+    are_bad(
+        &rt,
+        rt.alloc(),
+        &[
+            "scenario A = a b",
+            "scenario A = a - > b",
+            "scenario A = a-b",
+            "scenario A = + a",
+            "scenario A = a +",
+            "scenario A = a + -> b",
+            "scenario A = (a + b",
+            "scenario A = a + b)",
+            "scenario A = ()",
+            "scenario A = a + code",
+            "scenario A = scenario",
+            "scenario A = 1",
+            "scenario A = @ + a",
+            "scenario A = @empty",
+        ],
+    )
+}
+
+#[test]
+fn bad_conditions_are_told(rt: HostRuntime) -> Result<(), Memory> {
+    are_bad(
+        &rt,
+        rt.alloc(),
+        &[
+            "scenario A = [x]",
+            "scenario A = [] a",
+            "scenario A = [x a",
+            "scenario A = [x -> y] a",
+            "scenario A = [x & | y] a",
+            "scenario A = [x | y & ] a",
+            "scenario A = [x!] a",
+            "scenario A = [2] a",
+            "scenario A = [empty] a",
+        ],
+    )
+}
+
+#[test]
+fn bad_bytes_and_long_names_are_told(rt: HostRuntime) -> Result<(), Memory> {
+    are_bad(
+        &rt,
+        rt.alloc(),
+        &[
+            "scenario A = a;",
+            "scenario A = 1a",
+            "scenario A = n23456789012345678901234567890123",
+            "scenario n23456789012345678901234567890123 = a",
+            "scenario A = a\r\r",
+            "scenario A =\ra",
+            "scenario A = a\rscenario B = b",
+            "scenario A = \u{e4}",
+            "scenario A = a\0",
+            "scenario A = a \u{c}",
+        ],
+    )
 }
 
 #[test]
