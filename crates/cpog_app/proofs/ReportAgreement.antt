@@ -1,5 +1,5 @@
 -- A file has one report: each part of a report is fixed by the file.
-use Rattle.std.proofs.Common.{◌≡◌, ◌↔◌, ℕ, ◌<◌, Bool, true, false, IsTrue, List, [], ◌∷◌, length, map, slice_index_or, refl, sym, ap, ap₂, ◌∙◌, subst, inl, inr}
+use Rattle.std.proofs.Common.{arith, ◌≡◌, ◌↔◌, ℕ, ◌<◌, Bool, true, false, IsTrue, List, [], ◌∷◌, length, map, slice_index_or, refl, sym, ap, ap₂, ◌∙◌, subst, inl, inr}
 use Rattle.std.specs.FinSet as set
 use Rattle.std.specs.FinMap.{nat_cmp-IsAntisymmetric}
 use Rattle.std.proofs.lemmas.Bool.{cases_eq}
@@ -14,7 +14,7 @@ use Rattle.cpog_defs.specs.Graphs.{ConditionalGraph}
 use Rattle.cpog_defs.specs.Encodings.{Encoding}
 use Rattle.plain_text.specs.Contents.{Contents}
 use Rattle.report_text.specs.declared.bound.Bound.{Bound}
-use Rattle.report_text.specs.declared.bound.Bound.TheVariants.{Minimum}
+use Rattle.report_text.specs.declared.bound.Bound.TheVariants.{Minimum, Unknown}
 use Rattle.report_text.specs.Report.{ReportValue}
 use Rattle.cpog_app.specs.Scenarios.{covering_scenario}
 use Rattle.handshake_eqs.specs.Netlists.{IsNetlistOf}
@@ -95,6 +95,8 @@ module _ (n : ℕ) (orders : List Order) (a b : Encoding) (h : IsOneBitEncoding 
 -- without a gate the bound is the minimum 0
 one_bound : (n : ℕ) (orders : List Order) (a b : Encoding) (c d : Bound) → length a.gates.gates ≡ 0 → length b.gates.gates ≡ 0 → IsBoundOf n orders a c → IsBoundOf n orders b d → c ≡ d
 one_bound n orders a b (Minimum g) (Minimum i) p q h k = ap Minimum (h.0 ∙ p ∙ sym (k.0 ∙ q))
+one_bound n orders a b Unknown d p q h k = absurd (omega (arith, h, p))
+one_bound n orders a b (Minimum g) Unknown p q h k = absurd (omega (arith, k, q))
 
 -- reports of equal parts are equal
 same_report : (a b : ReportValue) → a.bits ≡ b.bits → a.budget ≡ b.budget → a.names ≡ b.names → a.scenario_names ≡ b.scenario_names → a.scenarios ≡ b.scenarios → a.encoding ≡ b.encoding → a.bound ≡ b.bound → a.netlist ≡ b.netlist → a ≡ b

@@ -10,7 +10,7 @@ use Rattle.plain_text.specs.declared.statement.Statement.{Statement}
 use Rattle.plain_text.specs.declared.statement.Statement.TheVariants as statement
 use Rattle.plain_text.specs.Contents.{Contents}
 use Rattle.report_text.specs.declared.bound.Bound.{Bound}
-use Rattle.report_text.specs.declared.bound.Bound.TheVariants.{Minimum}
+use Rattle.report_text.specs.declared.bound.Bound.TheVariants.{Minimum, Unknown}
 use Rattle.report_text.specs.Report.{ReportValue, IsReport}
 use Rattle.cpog_app.specs.Scenarios.{scenario_of, covering_scenario}
 use Rattle.cpog_app.specs.Conditions.{IsOneBitEncoding}
@@ -38,9 +38,10 @@ pub record IsFirstCyclic (scenarios : List Scenario) (s v : ℕ) : Type 0 where
 abbrev pub IsLowerBound : ℕ → List Order → Encoding → ℕ → Type 0
 IsLowerBound count orders e lo = (cost : ℕ) → cost < lo → HasEncoding count orders (open_patterns (length orders)) e.gates.inputs cost → ⊥
 
--- a printed minimum is the number of gates, and a lower bound
+-- a printed minimum is the number of gates, and a lower bound; nothing is known only where there is a gate
 abbrev pub IsBoundOf : ℕ → List Order → Encoding → Bound → Type 0
 IsBoundOf count orders e (Minimum h) = (h ≡ length e.gates.gates) × IsLowerBound count orders e h
+IsBoundOf count orders e Unknown = 0 < length e.gates.gates
 
 -- the report of a file: its scenarios with their covering pairs, distinct codes, conditions that fit the scenarios, and what the bound compares
 pub record IsSynthesis (f : Contents) (r : ReportValue) : Type 0 where

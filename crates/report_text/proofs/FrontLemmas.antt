@@ -17,7 +17,7 @@ use Rattle.gate_core.proofs.GateLemmas.{gate_reads}
 use Rattle.line_text.proofs.FeedLemmas.{NoFeed, is_clean, joined_free, passes_free, clean_free, clean_front, decimal_free, mapped_free}
 use Rattle.line_text.proofs.TellingLemmas.{apart, heads, free_name_passes}
 use Rattle.report_text.specs.declared.bound.Bound.{Bound}
-use Rattle.report_text.specs.declared.bound.Bound.TheVariants.{Minimum}
+use Rattle.report_text.specs.declared.bound.Bound.TheVariants.{Minimum, Unknown}
 use Rattle.netlist_verilog.specs.Module.{AreNames}
 use Rattle.report_text.specs.Report.{ReportValue, IsReport, IsBound}
 use Rattle.netlist_verilog.specs.Wires.{signal_text, name_of}
@@ -137,10 +137,11 @@ module _ (r : ReportValue) (is : IsReport r) where
       unless_zero_front _ (arc_ref r.encoding.graph u v) (arc_front u v lu lv)))
 
   pub end_front : AllByRecursion IsFrontLine (end_lines r.bound)
-  end_front = of_bound r.bound is.bound
+  end_front = of_bound r.bound (length r.encoding.gates.gates) is.bound
     where
-      of_bound : (b : Bound) → IsBound b → AllByRecursion IsFrontLine (end_lines b)
-      of_bound (Minimum h) zero = (
+      of_bound : (b : Bound) (gates : ℕ) → IsBound gates b → AllByRecursion IsFrontLine (end_lines b)
+      of_bound Unknown gates some = (front_line (codes "bound none") [] refl tt, tt)
+      of_bound (Minimum h) gates zero = (
         front_line (codes "minimum ") (decimal h) refl (decimal_free h (omega (arith, zero))),
         (
           front_line (codes "evidence zero") [] refl tt,

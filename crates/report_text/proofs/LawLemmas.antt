@@ -17,14 +17,13 @@ use Rattle.line_text.specs.Lines.{text_of}
 use Rattle.line_text.specs.Words.{continues_name}
 use Rattle.line_text.proofs.TellingLemmas.{tails, number_told, list_told, free_name_passes}
 use Rattle.report_text.specs.declared.bound.Bound.{Bound}
-use Rattle.report_text.specs.declared.bound.Bound.TheVariants.{Minimum}
 use Rattle.netlist_verilog.specs.Module.{AreNames}
 use Rattle.report_text.specs.Report.{ReportValue, IsReport, module_of}
 use Rattle.netlist_verilog.specs.Wires.{name_of}
 use Rattle.netlist_verilog.proofs.FeedLemmas.{names_pass}
-use Rattle.report_text.specs.Rows.{bits_row, budget_row, operations_row, scenario_lines, gates_row, gate_row, gate_lines, op_row, op_lines, arc_lines, bound_row, end_lines, netlist_lines, report_lines}
+use Rattle.report_text.specs.Rows.{bits_row, budget_row, operations_row, scenario_lines, gates_row, gate_row, gate_lines, op_row, op_lines, arc_lines, end_lines, netlist_lines, report_lines}
 use Rattle.report_text.proofs.BelowLemmas.{text_below, below_told, count_told}
-use Rattle.report_text.proofs.RowLemmas.{lines_differ, gate_told, op_told, entries_told, same_graph, bound_told, IsAfterArcs}
+use Rattle.report_text.proofs.RowLemmas.{lines_differ, gate_told, op_told, entries_told, same_graph, bound_told, bound_after}
 use Rattle.report_text.proofs.ScenarioLemmas.{block, block_told}
 use Rattle.report_text.proofs.NetlistLemmas.{one_netlist}
 
@@ -89,9 +88,6 @@ gates_told bits bits' g h ms ms' eb same ga ha gf hf e =
 
 -- ---- conditions
 
-end_after : (b : Bound) (ms : List (List ℕ)) → IsAfterArcs (text_of (end_lines b ++ ms) ++ [])
-end_after (Minimum m) ms = (109, _, omega arith, refl)
-
 graphs_told : (bits signals : ℕ) (names : List (List ℕ)) (g h : ConditionalGraph) (b c : Bound) (ms ms' : List (List ℕ)) → signals ≤ 2 ^ 64 → AreNames names → AreDistinct names → IsGraph (length names) signals g → IsGraph (length names) signals h
     → text_of (op_lines bits names g ++ (arc_lines bits names g ++ (end_lines b ++ ms))) ++ [] ≡ text_of (op_lines bits names h ++ (arc_lines bits names h ++ (end_lines c ++ ms'))) ++ [] → (g ≡ h) × (text_of (end_lines b ++ ms) ++ [] ≡ text_of (end_lines c ++ ms') ++ [])
 graphs_told bits signals names g h b c ms ms' fit are distinct gs hs e =
@@ -102,7 +98,7 @@ graphs_told bits signals names g h b c ms ms' fit are distinct gs hs e =
     (λ v lt x y t. op_told bits signals (name_of names v) (op_ref g v) (op_ref h v) x y fit (gs.over (Op (record { 0 = v })) lt) (hs.over (Op (record { 0 = v })) lt) t)
     (text_of (arc_lines bits names g ++ (end_lines b ++ ms)) ++ []) (text_of (arc_lines bits names h ++ (end_lines c ++ ms')) ++ []) e1 in
     let e2 = lists_differ (arc_lines bits names g) (arc_lines bits names h) (end_lines b ++ ms) (end_lines c ++ ms') [] [] ops.1 in
-    let arcs = entries_told bits signals names g h (text_of (end_lines b ++ ms) ++ []) (text_of (end_lines c ++ ms') ++ []) fit distinct (names_pass names are) gs hs (end_after b ms) (end_after c ms') e2 in
+    let arcs = entries_told bits signals names g h (text_of (end_lines b ++ ms) ++ []) (text_of (end_lines c ++ ms') ++ []) fit distinct (names_pass names are) gs hs (bound_after b ms []) (bound_after c ms' []) e2 in
     (same_graph n signals g h gs hs ops.0 arcs.0, arcs.1)
 
 -- ---- the whole report
@@ -177,7 +173,7 @@ end_told a b ia ib head e =
     subst (λ (n : ℕ). IsGraph n (signal_count ga) b.encoding.graph) (ap length (sym head.names)) (subst (λ (n : ℕ). IsGraph (length b.names) n b.encoding.graph) signals ib.encoding.graph) in
     let e' = gates.1 ∙ ap₂ (λ (bits : ℕ) (names : List (List ℕ)). text_of (op_lines bits names b.encoding.graph ++ (arc_lines bits names b.encoding.graph ++ (end_lines b.bound ++ netlist_lines (module_of b)))) ++ []) (sym head.bits) (sym head.names) in
     let graph = graphs_told a.bits (signal_count ga) a.names a.encoding.graph b.encoding.graph a.bound b.bound (netlist_lines (module_of a)) (netlist_lines (module_of b)) (omega (arith, ia.inputs, ia.few_bits, ia.few_gates)) ia.names ia.distinct ia.encoding.graph hb e' in
-    let bound = bound_told a.bound b.bound _ _ ia.bound ib.bound (lines_differ (bound_row a.bound) (bound_row b.bound) (codes "evidence zero" ∷ codes "open none" ∷ netlist_lines (module_of a)) (codes "evidence zero" ∷ codes "open none" ∷ netlist_lines (module_of b)) [] [] graph.1) in
+    let bound = bound_told a.bound b.bound (length ga.gates) (length gb.gates) (netlist_lines (module_of a)) (netlist_lines (module_of b)) [] [] ia.bound ib.bound graph.1 in
     record { gates = same; graph = graph.0; bound = bound }
 
 -- two reports with the same text are one

@@ -17,10 +17,10 @@ use Rattle.line_text.specs.Lines.{text_of}
 use Rattle.line_text.specs.Words.{continues_name}
 use Rattle.line_text.proofs.TellingLemmas.{AllPass, word_told, heads, tails, number_told, until_told}
 use Rattle.report_text.specs.declared.bound.Bound.{Bound}
-use Rattle.report_text.specs.declared.bound.Bound.TheVariants.{Minimum}
+use Rattle.report_text.specs.declared.bound.Bound.TheVariants.{Minimum, Unknown}
 use Rattle.report_text.specs.Report.{IsBound}
 use Rattle.netlist_verilog.specs.Wires.{name_of, signal_text}
-use Rattle.report_text.specs.Rows.{digits_of, ref_text, gate_row, op_row, arc_row, line_unless_zero, arc_lines_from, arc_lines, bound_row}
+use Rattle.report_text.specs.Rows.{digits_of, ref_text, gate_row, op_row, arc_row, line_unless_zero, arc_lines_from, arc_lines, minimum_row, end_lines}
 use Rattle.report_text.proofs.BelowLemmas.{flat_below, text_below, same_below, In, in_below, below_in}
 use Rattle.netlist_verilog.proofs.FeedLemmas.{name_passes}
 use Rattle.netlist_verilog.proofs.WordLemmas.{signal_told, name_is}
@@ -202,9 +202,16 @@ same_graph n signals g h gs hs ops e =
 
 -- ---- the bound
 
-pub bound_told : (a b : Bound) (x y : List ℕ) → IsBound a → IsBound b → bound_row a ++ 10 ∷ x ≡ bound_row b ++ 10 ∷ y → a ≡ b
-bound_told (Minimum m) (Minimum n) x y ha hb e = ap (λ k. Minimum k) ((number_told m n 10 x y (omega arith) (omega arith) refl (append_cancel_left (codes "minimum ") _ _ e)).0)
+pub bound_told : (a b : Bound) (g h : ℕ) (ls ls' : List (List ℕ)) (x y : List ℕ) → IsBound g a → IsBound h b → text_of (end_lines a ++ ls) ++ x ≡ text_of (end_lines b ++ ls') ++ y → a ≡ b
+bound_told Unknown Unknown g h ls ls' x y ha hb e = refl
+bound_told Unknown (Minimum n) g h ls ls' x y ha hb e = absurd (omega (arith, heads 98 109 _ _ e))
+bound_told (Minimum m) Unknown g h ls ls' x y ha hb e = absurd (omega (arith, heads 109 98 _ _ e))
+bound_told (Minimum m) (Minimum n) g h ls ls' x y ha hb e =
+    let rest : List (List ℕ) → List (List ℕ) = λ (ks : List (List ℕ)). codes "evidence zero" ∷ codes "open none" ∷ ks in
+    let line = append_cancel_left (codes "minimum ") _ _ (lines_differ (minimum_row m) (minimum_row n) (rest ls) (rest ls') x y e) in
+    ap (λ k. Minimum k) ((number_told m n 10 _ _ (omega (arith, ha)) (omega (arith, hb)) refl line).0)
 
 -- what follows the arcs
-pub bound_after : (b : Bound) (x : List ℕ) → IsAfterArcs (bound_row b ++ x)
-bound_after (Minimum m) x = (109, _, omega arith, refl)
+pub bound_after : (b : Bound) (ls : List (List ℕ)) (x : List ℕ) → IsAfterArcs (text_of (end_lines b ++ ls) ++ x)
+bound_after Unknown ls x = (98, _, omega arith, refl)
+bound_after (Minimum m) ls x = (109, _, omega arith, refl)

@@ -8,7 +8,7 @@ use Rattle.cpog_defs.specs.Encodings.{Encoding, IsEncoding}
 use Rattle.handshake_eqs.specs.Netlists.{Netlist, IsNetlistOf}
 use Rattle.netlist_verilog.specs.Module.{ModuleValue, AreNames}
 use Rattle.report_text.specs.declared.bound.Bound.{Bound}
-use Rattle.report_text.specs.declared.bound.Bound.TheVariants.{Minimum}
+use Rattle.report_text.specs.declared.bound.Bound.TheVariants.{Minimum, Unknown}
 
 -- the scenarios with their names, an encoding of them, what is known of the least number of gates, and a netlist
 pub record ReportValue : Type 0 where
@@ -35,9 +35,10 @@ pub record IsReported (count : ℕ) (sc : Scenario) : Type 0 where
   pub scenario : IsScenario sc
   pub ascending : AllPairs IsArcBefore sc.arcs
 
--- a minimum of 0 needs no evidence, and no other bound stands without its own
-abbrev pub IsBound : Bound → Type 0
-IsBound (Minimum h) = h ≡ 0
+-- a minimum of 0 needs no evidence, and no other bound stands without its own; nothing is known only where there is a gate
+abbrev pub IsBound : ℕ → Bound → Type 0
+IsBound gates (Minimum h) = h ≡ 0
+IsBound gates Unknown = 0 < gates
 
 -- 1 to 8 bits, a budget of 1 to 8388608, at most 64 operations, 1 to 64 scenarios with a name and a code each, fewer
 -- than 65536 gates, and the netlist of the encoding
@@ -58,5 +59,5 @@ pub record IsReport (r : ReportValue) : Type 0 where
   pub one_code_each : length r.encoding.codes ≡ length r.scenarios
   pub few_gates : length r.encoding.gates.gates < 65536
   pub encoding : IsEncoding (length r.names) r.encoding
-  pub bound : IsBound r.bound
+  pub bound : IsBound (length r.encoding.gates.gates) r.bound
   pub netlist : IsNetlistOf r.encoding r.netlist

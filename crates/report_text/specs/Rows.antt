@@ -12,7 +12,7 @@ use Rattle.cpog_defs.specs.Graphs.{ConditionalGraph, op_ref, arc_ref}
 use Rattle.cpog_defs.specs.Orders.{Set, each_below}
 use Rattle.cpog_defs.specs.Scenarios.{Scenario}
 use Rattle.report_text.specs.declared.bound.Bound.{Bound}
-use Rattle.report_text.specs.declared.bound.Bound.TheVariants.{Minimum}
+use Rattle.report_text.specs.declared.bound.Bound.TheVariants.{Minimum, Unknown}
 use Rattle.netlist_verilog.specs.Wires.{signal_text, name_of}
 use Rattle.netlist_verilog.specs.Module.{ModuleValue}
 use Rattle.netlist_verilog.specs.Rows.{module_lines}
@@ -109,14 +109,16 @@ abbrev pub arc_lines : ℕ → List (List ℕ) → ConditionalGraph → List (Li
 arc_lines inputs names graph = each_below (λ u. arc_lines_from inputs names graph u (length names)) (length names)
 
 -- the least number of gates
-abbrev pub bound_row : Bound → List ℕ
-bound_row (Minimum h) = codes "minimum " ++ decimal h
+abbrev pub minimum_row : ℕ → List ℕ
+minimum_row h = codes "minimum " ++ decimal h
 
 abbrev pub head_lines : ReportValue → List (List ℕ)
 head_lines r = codes "cpog report 1" ∷ bits_row r.bits ∷ budget_row r.budget ∷ operations_row r.names ∷ []
 
+-- the least number of gates, its evidence and that nothing is open; or that nothing is known of it
 abbrev pub end_lines : Bound → List (List ℕ)
-end_lines bound = bound_row bound ∷ codes "evidence zero" ∷ codes "open none" ∷ []
+end_lines (Minimum h) = minimum_row h ∷ codes "evidence zero" ∷ codes "open none" ∷ []
+end_lines Unknown = codes "bound none" ∷ []
 
 -- the module of the netlist, to the end
 abbrev pub netlist_lines : ModuleValue → List (List ℕ)

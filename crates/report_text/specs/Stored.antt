@@ -1,5 +1,5 @@
 -- How a report is stored as a value.
-use Rattle.std.specs.Prelude.{◌≡◌, ℕ, List, refl}
+use Rattle.std.specs.Prelude.{◌≡◌, ℕ, zero, suc, List, refl}
 use Rattle.std.specs.Coded.{Coded, code_by, coded×, coded_ℕ, coded_list}
 use Rattle.cpog_defs.specs.declared.types.Ref.{Ref}
 use Rattle.cpog_defs.specs.Gates.{GateList}
@@ -10,16 +10,19 @@ use Rattle.cpog_defs.specs.Stored.{scenario_code}
 use Rattle.handshake_eqs.specs.Netlists.{Netlist}
 use Rattle.handshake_eqs.specs.StoredNetlist.{gate_list_code, ref_code, netlist_code}
 use Rattle.report_text.specs.declared.bound.Bound.{Bound}
-use Rattle.report_text.specs.declared.bound.Bound.TheVariants.{Minimum}
+use Rattle.report_text.specs.declared.bound.Bound.TheVariants.{Minimum, Unknown}
 use Rattle.report_text.specs.Report.{ReportValue}
 
 abbrev from_bound : Bound → ℕ
-from_bound (Minimum h) = h
+from_bound Unknown = 0
+from_bound (Minimum h) = suc h
 
 abbrev to_bound : ℕ → Bound
-to_bound h = Minimum h
+to_bound zero = Unknown
+to_bound (suc h) = Minimum h
 
 pub bound_back : (b : Bound) → to_bound (from_bound b) ≡ b
+bound_back Unknown = refl
 bound_back (Minimum h) = refl
 
 abbrev pub bound_code : Coded Bound

@@ -3,4 +3,6 @@
 pub enum Bound {
     /// It is this number.
     Minimum(u32),
+    /// Nothing is known of it yet.
+    Unknown,
 }

@@ -244,9 +244,9 @@ fn put_end(out: &mut String, bound: Bound) -> Result<(), AllocError>
     ensures { OnOk result (string_bytes out.new ≡ string_bytes out.old ++ text_of (end_lines bound)) }
 {
     match bound {
-        Bound::Minimum(count) => write!(out, "minimum {count}\n")?,
+        Bound::Minimum(count) => write!(out, "minimum {count}\nevidence zero\nopen none\n"),
+        Bound::Unknown => out.push_str("bound none\n"),
     }
-    out.push_str("evidence zero\nopen none\n")
 }
 
 /// This text with the line `netlist` and the module behind it.
@@ -255,4 +255,35 @@ fn append_netlist(mut text: String, design: &Module) -> Result<String, Memory>
 {
     text.push_str("netlist\n")?;
     append_module(text, design)
+}
+
+#[cfg(test)]
+mod tests {
+    use super::*;
+
+    #[test]
+    fn a_gate_is_printed_with_its_signals_and_values(rt: HostRuntime) {
+        // x0 & x1, and the exclusive or of x1 and that gate, over two bits.
+        let both = Gate {
+            j: 0,
+            k: 1,
+            table: 8,
+        };
+        let one = Gate {
+            j: 1,
+            k: 2,
+            table: 6,
+        };
+        let mut out = String::new(rt.alloc());
+        put_gates(&mut out, 2, &[both, one]).expect(&rt, "there is memory");
+        put_op(&mut out, 2, "a", Ref::Const(true)).expect(&rt, "there is memory");
+        let complement = Ref::Signal {
+            number: 3,
+            negated: true,
+        };
+        put_arc(&mut out, 2, "a", "b", complement).expect(&rt, "there is memory");
+        put_end(&mut out, Bound::Unknown).expect(&rt, "there is memory");
+        let want = "gates 2\ng0 x0 x1 0001\ng1 x1 g0 0110\nop a 1\narc a b !g1\nbound none\n";
+        assert_eq!(rt; out.as_str(), want);
+    }
 }
