@@ -8,14 +8,9 @@ use Rattle.std.specs.Ordering.{nat_cmp}
 use Rattle.std.specs.FinSet as set
 use Rattle.cpog_defs.specs.declared.types.OpId.{OpId}
 use Rattle.cpog_defs.specs.Orders.{Set, each_below, arc_of}
-use Rattle.cpog_defs.specs.Walks.{last, more}
-use Rattle.cpog_defs.specs.Scenarios.{Scenario, IsBefore}
-use Rattle.cpog_base.proofs.ArcLemmas.{has_from_contains}
+use Rattle.cpog_defs.specs.Scenarios.{Scenario}
 use Rattle.cpog_base.specs.Arcs.{has_arc, with_arc}
-use Rattle.plain_text.specs.declared.expr.Expr.{Expr, Op, Overlay', Sequence', Row_of-Expr, end_of-Expr, more_of-Expr}
-use Rattle.pg_algebra.specs.Graphs.{Graph}
-use Rattle.plain_text.specs.Meaning.{graph_of, overlay_row, sequence_row}
-use Rattle.cpog_app.specs.Scenarios.{arcs_from, arcs_where, set_where, scenario_of}
+use Rattle.cpog_app.specs.Scenarios.{arcs_from, arcs_where, set_where}
 
 pub has_append : (xs ys : List (OpId × OpId)) (a b : ℕ) → has_arc (xs ++ ys) a b ≡ (has_arc xs a b || has_arc ys a b)
 has_append xs ys a b = list_any-append (λ x. (x.0.0 == a) && (x.1.0 == b)) xs ys
@@ -51,34 +46,6 @@ fresh_first p n m b = false_from_ne_true _ (λ h. absurd (let k = begin_below p 
 pub fresh_second : (old : List (OpId × OpId)) (p : ℕ → ℕ → Bool) (u v : ℕ) → has_arc old u v ≡ false → has_arc (old ++ arcs_from p v u) u v ≡ false
 fresh_second old p u v none = has_append old (arcs_from p v u) u v ∙ ap₂ (λ a b. a || b) none (false_from_ne_true _ (λ h. absurd (let k = from_u p v u u v h in omega (arith, k.1))))
 
-either : (a b : Bool) → (a ≡ true → IsTrue b) → IsTrue (a || b) → IsTrue b
-either true b f h = f refl
-either false b f h = h
-
--- the ends of an arc of a graph are its vertices
-mutual
-  pub ends_of : (e : Expr) (u v : ℕ) → IsTrue ((graph_of e).arc u v) → IsTrue ((graph_of e).vertex u) × IsTrue ((graph_of e).vertex v)
-  ends_of (Op o) u v h = absurd (both_ways _ refl h)
-  ends_of (Overlay' shape members) u v h = ends_of_overlay members u v h
-  ends_of (Sequence' shape members) u v h = ends_of_sequence members u v h
-
-  ends_of_overlay : {m : _} (row : Row_of-Expr m) (u v : ℕ) → IsTrue ((overlay_row row).arc u v) → IsTrue ((overlay_row row).vertex u) × IsTrue ((overlay_row row).vertex v)
-  ends_of_overlay end_of-Expr u v h = absurd (both_ways _ refl h)
-  ends_of_overlay (more_of-Expr e rest) u v h = elim (or_cases _ _ h) [
-    | inl a ↦ let k = ends_of e u v a in (or_left _ _ k.0, or_left _ _ k.1)
-    | inr b ↦ let k = ends_of_overlay rest u v b in (or_right _ _ k.0, or_right _ _ k.1)
-  ]
-
-  ends_of_sequence : {m : _} (row : Row_of-Expr m) (u v : ℕ) → IsTrue ((sequence_row row).arc u v) → IsTrue ((sequence_row row).vertex u) × IsTrue ((sequence_row row).vertex v)
-  ends_of_sequence end_of-Expr u v h = absurd (both_ways _ refl h)
-  ends_of_sequence (more_of-Expr e rest) u v h = elim (or_cases _ _ h) [
-    | inl inside ↦ elim (or_cases _ _ inside) [
-      | inl a ↦ let k = ends_of e u v a in (or_left _ _ k.0, or_left _ _ k.1)
-      | inr b ↦ let k = ends_of_sequence rest u v b in (or_right _ _ k.0, or_right _ _ k.1)
-    ]
-    | inr across ↦ let k = and_parts ((graph_of e).vertex u) ((sequence_row rest).vertex v) across in (or_left ((graph_of e).vertex u) ((sequence_row rest).vertex u) k.0, or_right ((graph_of e).vertex v) ((sequence_row rest).vertex v) k.1)
-  ]
-
 -- tests that agree gather the same
 pub set_same : (p q : ℕ → Bool) (n : ℕ) → ((v : ℕ) → p v ≡ q v) → set_where p n ≡ set_where q n
 set_same p q zero h = refl
@@ -91,15 +58,6 @@ from_same p q (suc n) u h = ap₂ (λ xs t. xs ++ (if t then arc_of u n ∷ [] e
 pub below_same : (p q : ℕ → ℕ → Bool) (n m : ℕ) → ((u v : ℕ) → v < n → p u v ≡ q u v) → each_below (arcs_from p n) m ≡ each_below (arcs_from q n) m
 below_same p q n zero h = refl
 below_same p q n (suc m) h = ap₂ (λ xs ys. xs ++ ys) (below_same p q n m h) (from_same p q n m (h m))
-
-abbrev no_op : Set
-no_op = set.empty
-
--- no row of empty sets has a member
-pub none_in : (n v u : ℕ) → set.contains (slice_index_or (replicate n no_op) v no_op) u ≡ false
-none_in zero v u = set.contains-empty nat_cmp u
-none_in (suc n) zero u = set.contains-empty nat_cmp u
-none_in (suc n) (suc v) u = none_in n v u
 
 abbrev pub scenario_with : ℕ → Set → List (OpId × OpId) → Scenario
 scenario_with count ops arcs = record { count = count; ops = ops; arcs = arcs }
@@ -124,7 +82,7 @@ pub arc_passed : (start old : Scenario) (p : ℕ → ℕ → Bool) (u v : ℕ) �
 arc_passed start old p u v fails was =
     was ∙ ap (λ xs. with_arcs start (start.arcs ++ xs)) (sym (append-nil (arcs_from p v u)) ∙ ap (λ t. arcs_from p v u ++ (if t then arc_of u v ∷ [] else [])) (sym fails) ∙ ap (λ n. arcs_from p n u) (sym (add-one v)))
 
--- ---- the rows that a walk leaves
+-- ---- sets that are gathered
 
 other_member : (t : Bool) (s : Set) (n v : ℕ) → v ≢ n → set.contains (if t then set.insert s n else s) v ≡ set.contains s v
 other_member true s n v ne = set.contains-insert nat_cmp_total s n v ∙ ap (λ b. b || set.contains s v) (unsigned_tied v n ∙ ne_eqb v n ne)
@@ -145,13 +103,6 @@ contains-set_where p (suc n) v l = elim (cases_eq v n) [
   | inr ne ↦ other_member (p n) (set_where p n) n v ne ∙ contains-set_where p n v (omega arith)
 ]
 
--- each row has the first ends of the arcs to its operation
-pub gathered : (old new : List Set) (g : Graph) (before : Set) (count : ℕ) → old ≡ replicate count set.empty → before ≡ set.empty
-    → ((u v : ℕ) → set.contains (slice_index_or new v set.empty) u ≡ (set.contains (slice_index_or old v set.empty) u || (g.arc u v || (set.contains before u && g.vertex v))))
-    → (u v : ℕ) → set.contains (slice_index_or new v set.empty) u ≡ g.arc u v
-gathered old new g before count empty_rows none is u v =
-    is u v ∙ ap₂ (λ a b. a || (g.arc u v || (b && g.vertex v))) (ap (λ rows. set.contains (slice_index_or rows v set.empty) u) empty_rows ∙ none_in count v u) (ap (λ s. set.contains s u) none ∙ set.contains-empty nat_cmp u) ∙ or-false (g.arc u v)
-
 -- the same tests give the same scenario
 pub same_scenario : (m n : ℕ) (p q : ℕ → Bool) (r s : ℕ → ℕ → Bool) → m ≡ n → ((v : ℕ) → p v ≡ q v) → ((u v : ℕ) → v < n → r u v ≡ s u v)
     → scenario_with m (set_where p m) (arcs_where r m) ≡ scenario_with n (set_where q n) (arcs_where s n)
@@ -163,8 +114,3 @@ set_where-all ops n below = set.same_set nat_cmp_total set.nat_cmp-IsAntisymmetr
   | inl l ↦ contains-set_where (set.contains ops) n v l
   | inr g ↦ past_members (set.contains ops) n v g ∙ sym (false_from_ne_true _ (λ h. absurd (let l = below v h in omega arith)))
 ])
-
--- a walk begins below the count
-pub walk_below : (n : ℕ) (g : Graph) (u v : ℕ) → IsBefore (scenario_of n g) u v → u < n
-walk_below n g u v (last e) = begin_below g.arc n n u v (has_from_contains (arcs_where g.arc n) u v e)
-walk_below n g u v (more {v = z} e w) = begin_below g.arc n n u z (has_from_contains (arcs_where g.arc n) u z e)

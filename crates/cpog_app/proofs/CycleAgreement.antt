@@ -1,5 +1,5 @@
 -- Scenarios have one first that has an operation before itself, and that one least such operation.
-use Rattle.std.proofs.Common.{◌≡◌, ℕ, List, [], ◌∷◌, length, slice_get, Some, None, refl, sym, ap, ◌∙◌, subst, arith, inl, inr}
+use Rattle.std.proofs.Common.{◌≡◌, ℕ, List, slice_get, Some, None, refl, sym, ap, ◌∙◌, subst, arith, inl, inr}
 use Rattle.std.specs.Prelude.{Option, IsSomeAnd}
 use Rattle.std.proofs.lemmas.Bool.{cases_lt}
 use Rattle.std.proofs.lemmas.Option.{same_Some}
@@ -43,8 +43,3 @@ first_least xs s t v w h k =
 -- scenarios with a first cyclic one don't all have orders
 pub cyclic_or_orders : (xs : List Scenario) (os : List Order) (s v : ℕ) → IsFirstCyclic xs s v → AreOrdersOf xs os → ⊥
 cyclic_or_orders xs os s v h z = let a = value_of (slice_get xs s) (λ sc. IsLeastCyclic sc v) h.here in none_cyclic xs os z s v a.0 a.1 a.2.is_cyclic
-
--- no scenarios, no first cyclic one
-pub none_first : (xs : List Scenario) (s v : ℕ) → xs ≡ [] → IsFirstCyclic xs s v → ⊥
-none_first [] s v e h = h.here
-none_first (x ∷ xs) s v e h = let l : length (x ∷ xs) ≡ 0 = ap length e in absurd (omega (arith, l))

@@ -1,102 +1,276 @@
--- What is printed for a file is one answer: each cause has one output, and the causes exclude each other.
-use Rattle.std.proofs.Common.{◌≡◌, ℕ, ◌≤◌, ◌^◌, List, length, slice_get, refl, sym, ap, ap₂, ◌∙◌, subst, arith}
+-- What is printed for a file is one answer: each cause has one output, and it stands only where no cause before it does.
+use Rattle.std.proofs.Common.{◌≡◌, ◌⊎◌, ℕ, ◌<◌, ◌≤◌, ◌^◌, List, [], length, map, Some, None, slice_get, refl, sym, ap, ap₂, ◌∙◌, subst, arith, inl, inr}
+use Rattle.std.proofs.lemmas.Bool.{cases_lt}
 use Rattle.std.proofs.lemmas.List.{length-map}
-use Rattle.std.proofs.lemmas.Option.{same_Some}
+use Rattle.std.proofs.lemmas.Option.{none-some, same_Some}
 use Rattle.cpog_base.specs.declared.status.Status.{Status}
 use Rattle.cpog_base.specs.declared.status.Status.TheVariants as status
+use Rattle.cpog_defs.specs.Orders.{Order}
+use Rattle.cpog_defs.specs.Scenarios.{Scenario}
 use Rattle.line_text.specs.Lines.{text_of}
-use Rattle.plain_text.specs.Contents.{Contents}
+use Rattle.pg_text.specs.Contents.{Contents}
+use Rattle.pg_normal.specs.declared.naming.NameFault.{NameFault}
+use Rattle.pg_normal.specs.declared.naming.NameFault.TheVariants as fault
+use Rattle.pg_normal.specs.Naming.{name_faults, first, IsFirst}
+use Rattle.pg_normal.specs.Normals.{params_in}
+use Rattle.scenario_check.specs.Equals.{AreEqualAt, IsFirstPair}
 use Rattle.report_text.specs.Rows.{report_lines}
 use Rattle.cpog_app.specs.declared.refusal.Refusal.TheVariants as refusal
-use Rattle.cpog_app.specs.Refusal.{refusal_text}
-use Rattle.cpog_app.specs.Synthesis.{scenarios_of, scenario_names_of}
-use Rattle.cpog_app.specs.Allowed.{IsReportAnswer, IsCyclicAnswer, IsManyAnswer, IsEmptyAnswer, IsFileAnswer}
+use Rattle.cpog_app.specs.declared.words.Command.{Command}
+use Rattle.cpog_app.specs.declared.words.Command.TheVariants as command
+use Rattle.cpog_app.specs.Refusal.{refusal_text, IsNamesLine}
+use Rattle.cpog_app.specs.Denoting.{Stated, stated_in, scenario_names_of, AreScenariosOf, AreOrdersIn, LeavesOpen, IsFirstUnbound}
+use Rattle.cpog_app.specs.Synthesis.{AreDifferent}
+use Rattle.cpog_app.specs.Answers.{IsNameFaultAnswer, IsFormsAnswer, IsNormalAnswer, IsEmptyAnswer, IsUnboundAnswer, IsCyclicAnswer, IsEqualAnswer, IsManyAnswer, IsReportAnswer, IsSynthAnswer, IsFileAnswer}
+use Rattle.cpog_app.proofs.Causes.{Cause, Agree, IsOne, AreApart, at_status, either, one_at, one_either}
+use Rattle.cpog_app.proofs.DenotingLemmas.{none_open, length-denoted}
+use Rattle.cpog_app.proofs.OrderAgreement.{one_orders, cyclic_again}
+use Rattle.cpog_app.proofs.ReportLemmas.{length-orders}
 use Rattle.cpog_app.proofs.ReportAgreement.{one_report}
-use Rattle.cpog_app.proofs.CycleAgreement.{cyclic_or_orders, first_least, none_first}
+use Rattle.cpog_app.proofs.CycleAgreement.{cyclic_or_orders, first_least}
+use Rattle.pg_normal.proofs.TextLaws.{one_normal_text}
 
--- ---- the causes of a file exclude each other
+-- ---- what comes first is one
 
--- a report has a scenario
-report_or_empty : (f : Contents) (x y : List ℕ) → IsReportAnswer f x → IsEmptyAnswer f y → ⊥
-report_or_empty f x y h k =
-    let names : length h.report.scenario_names ≡ length f.statements = ap length h.synthesis.scenario_names ∙ length-map f.statements _ in
-    let empty : length f.statements ≡ 0 = ap length k.none in
-    absurd (omega (arith, names, empty, h.synthesis.report.one_name_each, h.synthesis.report.some_scenario))
+-- a fault that is told is the first
+told : (fs : List NameFault) (x : NameFault) (output : List ℕ) → IsFirst fs x → IsNamesLine x output → first fs ≡ Some x
+told fs (fault.Duplicate line name) output h k = h
+told fs (fault.UnknownGraph line name) output h k = h
+told fs (fault.UnknownParam line name) output h k = h
+told fs fault.Memory output h k = absurd k
 
--- the scenarios of a report have orders
-report_or_cyclic : (f : Contents) (x y : List ℕ) → IsReportAnswer f x → IsCyclicAnswer f y → ⊥
-report_or_cyclic f x y h k = cyclic_or_orders (scenarios_of f) h.synthesis.orders k.number k.operation k.first h.synthesis.of_scenarios
+one_line : (f : NameFault) (x y : List ℕ) → IsNamesLine f x → IsNamesLine f y → x ≡ y
+one_line (fault.Duplicate line name) x y h k = h ∙ sym k
+one_line (fault.UnknownGraph line name) x y h k = h ∙ sym k
+one_line (fault.UnknownParam line name) x y h k = h ∙ sym k
+one_line fault.Memory x y h k = absurd h
 
--- a report of one bit has at most two scenarios
-report_or_many : (f : Contents) (x y : List ℕ) → IsReportAnswer f x → IsManyAnswer f y → ⊥
-report_or_many f x y h k = let few : length f.statements ≤ 2 ^ 1 = subst (λ bits. length f.statements ≤ 2 ^ bits) h.synthesis.bits h.synthesis.enough_bits in absurd (omega (arith, few, k.many))
+-- one scenario is the first that leaves a parameter open, and one parameter is its least
+first_unbound : (f : Contents) (m n j k : ℕ) → IsFirstUnbound f m j → IsFirstUnbound f n k → (m ≡ n) × (j ≡ k)
+first_unbound f m n j k a b = elim (cases_lt a.place b.place) [
+  | inl less ↦ absurd (b.earlier a.place j a.scenario less a.stands a.unbound)
+  | inr most ↦ elim (cases_lt b.place a.place) [
+    | inl less ↦ absurd (a.earlier b.place k b.scenario less b.stands b.unbound)
+    | inr least ↦
+        let place : a.place ≡ b.place = omega arith in
+        let same : a.scenario ≡ b.scenario = same_Some a.scenario b.scenario (sym a.stands ∙ ap (slice_get (stated_in f)) place ∙ b.stands) in (
+          sym a.line_is ∙ ap (λ x. x.line) same ∙ b.line_is,
+          elim (cases_lt j k) [
+            | inl less ↦ absurd (b.least j less (subst (λ x. LeavesOpen x j) same a.unbound))
+            | inr up ↦ elim (cases_lt k j) [
+              | inl less ↦ absurd (a.least k less (subst (λ x. LeavesOpen x k) (sym same) b.unbound))
+              | inr down ↦ omega arith
+            ]
+          ],
+        )
+  ]
+]
 
--- where there are too many codes, the scenarios have orders
-cyclic_or_many : (f : Contents) (x y : List ℕ) → IsCyclicAnswer f x → IsManyAnswer f y → ⊥
-cyclic_or_many f x y h k = cyclic_or_orders (scenarios_of f) k.orders h.number h.operation h.first k.of_scenarios
+-- one pair is the first of equal scenarios
+first_pair : (orders : List Order) (l m e g : ℕ) → IsFirstPair orders l e → IsFirstPair orders m g → (l ≡ m) × (e ≡ g)
+first_pair orders l m e g a b = elim (cases_lt l m) [
+  | inl less ↦ absurd (b.least l e less a.equal)
+  | inr most ↦ elim (cases_lt m l) [
+    | inl less ↦ absurd (a.least m g less b.equal)
+    | inr least ↦
+        let same : l ≡ m = omega arith in (
+          same,
+          elim (cases_lt e g) [
+            | inl less ↦ absurd (b.first e less (subst (λ i. AreEqualAt orders i e) same a.equal))
+            | inr up ↦ elim (cases_lt g e) [
+              | inl less ↦ absurd (a.first g less (subst (λ i. AreEqualAt orders i g) (sym same) b.equal))
+              | inr down ↦ omega arith
+            ]
+          ],
+        )
+  ]
+]
 
--- where a scenario is cyclic, there is one
-cyclic_or_empty : (f : Contents) (x y : List ℕ) → IsCyclicAnswer f x → IsEmptyAnswer f y → ⊥
-cyclic_or_empty f x y h k = none_first (scenarios_of f) h.number h.operation (ap (λ ss. scenarios_of (record f { statements = ss })) k.none) h.first
+module _ (f : Contents) where
+  -- ---- each cause has one output
 
--- where there are too many scenarios, there is one
-many_or_empty : (f : Contents) (x y : List ℕ) → IsManyAnswer f x → IsEmptyAnswer f y → ⊥
-many_or_empty f x y h k = let empty : length f.statements ≡ 0 = ap length k.none in absurd (omega (arith, empty, h.many))
+  one_fault_answer : (x y : List ℕ) → IsNameFaultAnswer f x → IsNameFaultAnswer f y → x ≡ y
+  one_fault_answer x y h k =
+      let same : h.fault ≡ k.fault = same_Some h.fault k.fault (sym (told (name_faults f) h.fault x h.first h.output_is) ∙ told (name_faults f) k.fault y k.first k.output_is) in
+      one_line h.fault x y h.output_is (subst (λ a. IsNamesLine a y) (sym same) k.output_is)
 
--- ---- each cause of a file has one output
+  one_forms_answer : (x y : List ℕ) → IsFormsAnswer f x → IsFormsAnswer f y → x ≡ y
+  one_forms_answer x y h k = h.output_is ∙ one_normal_text f h.normals k.normals h.of_file k.of_file ∙ sym k.output_is
 
--- a file's report is printed in one way
-one_report_answer : (f : Contents) (x y : List ℕ) → IsReportAnswer f x → IsReportAnswer f y → x ≡ y
-one_report_answer f x y h k = h.output_is ∙ ap (λ r. text_of (report_lines r)) (one_report f h.report k.report h.synthesis k.synthesis) ∙ sym k.output_is
+  one_empty_answer : (x y : List ℕ) → IsEmptyAnswer f x → IsEmptyAnswer f y → x ≡ y
+  one_empty_answer x y h k = h.output_is ∙ sym k.output_is
 
--- a file's first cycle is printed in one way
-one_cyclic_answer : (f : Contents) (x y : List ℕ) → IsCyclicAnswer f x → IsCyclicAnswer f y → x ≡ y
-one_cyclic_answer f x y h k =
-    let same = first_least (scenarios_of f) h.number k.number h.operation k.operation h.first k.first in
-    let scenario = same_Some h.scenario_name k.scenario_name (sym h.scenario_is ∙ ap (slice_get (scenario_names_of f)) same.0 ∙ k.scenario_is) in
-    let operation = same_Some h.operation_name k.operation_name (sym h.operation_is ∙ ap (slice_get f.operations) same.1 ∙ k.operation_is) in
-    h.output_is ∙ ap₂ (λ name op. refusal_text (refusal.Cyclic name op)) scenario operation ∙ sym k.output_is
+  one_unbound_answer : (x y : List ℕ) → IsUnboundAnswer f x → IsUnboundAnswer f y → x ≡ y
+  one_unbound_answer x y h k =
+      let same = first_unbound f h.line k.line h.number k.number h.first k.first in
+      let name : h.name ≡ k.name = same_Some h.name k.name (sym h.name_is ∙ ap (slice_get (params_in f)) same.1 ∙ k.name_is) in
+      h.output_is ∙ ap₂ (λ line w. refusal_text (refusal.Unbound line w)) same.0 name ∙ sym k.output_is
 
--- two answers are one
-abbrev pub Agree : Status → List ℕ → Status → List ℕ → Type 0
-Agree s x t y = (s ≡ t) × (x ≡ y)
+  one_cyclic_answer : (x y : List ℕ) → IsCyclicAnswer f x → IsCyclicAnswer f y → x ≡ y
+  one_cyclic_answer x y h k =
+      let same = first_least k.scenarios h.number k.number h.operation k.operation (cyclic_again f h.scenarios k.scenarios h.number h.operation h.denoted k.denoted h.first) k.first in
+      let scenario : h.scenario_name ≡ k.scenario_name = same_Some h.scenario_name k.scenario_name (sym h.scenario_is ∙ ap (slice_get (scenario_names_of f)) same.0 ∙ k.scenario_is) in
+      let operation : h.operation_name ≡ k.operation_name = same_Some h.operation_name k.operation_name (sym h.operation_is ∙ ap (slice_get f.operations) same.1 ∙ k.operation_is) in
+      h.output_is ∙ ap₂ (λ a b. refusal_text (refusal.Cyclic a b)) scenario operation ∙ sym k.output_is
 
--- a file with a report has no other answer
-of_report : (f : Contents) (x y : List ℕ) (t : Status) → IsReportAnswer f x → IsFileAnswer f t y → Agree status.Ok x t y
-of_report f x y status.Ok h k = (refl, one_report_answer f x y h k)
-of_report f x y status.Names h k = absurd (report_or_empty f x y h k)
-of_report f x y status.Cyclic h k = absurd (report_or_cyclic f x y h k)
-of_report f x y status.Limit h k = absurd (report_or_many f x y h k)
-of_report f x y other h k = absurd k
+  one_equal_answer : (x y : List ℕ) → IsEqualAnswer f x → IsEqualAnswer f y → x ≡ y
+  one_equal_answer x y h k =
+      let same = first_pair k.orders h.later k.later h.earlier k.earlier (subst (λ os. IsFirstPair os h.later h.earlier) (one_orders f h.orders k.orders h.of_file k.of_file) h.first) k.first in
+      let later : h.later_name ≡ k.later_name = same_Some h.later_name k.later_name (sym h.later_is ∙ ap (slice_get (scenario_names_of f)) same.0 ∙ k.later_is) in
+      let earlier : h.earlier_name ≡ k.earlier_name = same_Some h.earlier_name k.earlier_name (sym h.earlier_is ∙ ap (slice_get (scenario_names_of f)) same.1 ∙ k.earlier_is) in
+      h.output_is ∙ ap₂ (λ a b. refusal_text (refusal.Equal a b)) later earlier ∙ sym k.output_is
 
--- a file without scenarios has no other answer
-of_empty : (f : Contents) (x y : List ℕ) (t : Status) → IsEmptyAnswer f x → IsFileAnswer f t y → Agree status.Names x t y
-of_empty f x y status.Ok h k = absurd (report_or_empty f y x k h)
-of_empty f x y status.Names h k = (refl, h.output_is ∙ sym k.output_is)
-of_empty f x y status.Cyclic h k = absurd (cyclic_or_empty f y x k h)
-of_empty f x y status.Limit h k = absurd (many_or_empty f y x k h)
-of_empty f x y other h k = absurd k
+  one_many_answer : (x y : List ℕ) → IsManyAnswer f x → IsManyAnswer f y → x ≡ y
+  one_many_answer x y h k = h.output_is ∙ sym k.output_is
 
--- a file with a cyclic scenario has no other answer
-of_cyclic : (f : Contents) (x y : List ℕ) (t : Status) → IsCyclicAnswer f x → IsFileAnswer f t y → Agree status.Cyclic x t y
-of_cyclic f x y status.Ok h k = absurd (report_or_cyclic f y x k h)
-of_cyclic f x y status.Names h k = absurd (cyclic_or_empty f x y h k)
-of_cyclic f x y status.Cyclic h k = (refl, one_cyclic_answer f x y h k)
-of_cyclic f x y status.Limit h k = absurd (cyclic_or_many f x y h k)
-of_cyclic f x y other h k = absurd k
+  one_report_answer : (x y : List ℕ) → IsReportAnswer f x → IsReportAnswer f y → x ≡ y
+  one_report_answer x y h k = h.output_is ∙ ap (λ r. text_of (report_lines r)) (one_report f h.report k.report h.synthesis k.synthesis) ∙ sym k.output_is
 
--- a file of too many scenarios has no other answer
-of_many : (f : Contents) (x y : List ℕ) (t : Status) → IsManyAnswer f x → IsFileAnswer f t y → Agree status.Limit x t y
-of_many f x y status.Ok h k = absurd (report_or_many f y x k h)
-of_many f x y status.Names h k = absurd (many_or_empty f x y h k)
-of_many f x y status.Cyclic h k = absurd (cyclic_or_many f y x k h)
-of_many f x y status.Limit h k = (refl, h.output_is ∙ sym k.output_is)
-of_many f x y other h k = absurd k
+  -- ---- the causes in their order
 
--- a file has one answer
-pub file_answers_agree : (f : Contents) (s t : Status) (x y : List ℕ) → IsFileAnswer f s x → IsFileAnswer f t y → Agree s x t y
-file_answers_agree f status.Ok t x y h k = of_report f x y t h k
-file_answers_agree f status.Names t x y h k = of_empty f x y t h k
-file_answers_agree f status.Cyclic t x y h k = of_cyclic f x y t h k
-file_answers_agree f status.Limit t x y h k = of_many f x y t h k
-file_answers_agree f other t x y h k = absurd h
+  abbrev name_fault : Cause
+  name_fault = at_status status.Names (IsNameFaultAnswer f)
+
+  abbrev forms : Cause
+  forms = at_status status.Ok (IsFormsAnswer f)
+
+  abbrev empty : Cause
+  empty = at_status status.Names (IsEmptyAnswer f)
+
+  abbrev unbound : Cause
+  unbound = at_status status.Names (IsUnboundAnswer f)
+
+  abbrev cyclic : Cause
+  cyclic = at_status status.Cyclic (IsCyclicAnswer f)
+
+  abbrev equal : Cause
+  equal = at_status status.Equal (IsEqualAnswer f)
+
+  abbrev many : Cause
+  many = at_status status.Limit (IsManyAnswer f)
+
+  abbrev report : Cause
+  report = at_status status.Ok (IsReportAnswer f)
+
+  abbrev from_many : Cause
+  from_many = either many report
+
+  abbrev from_equal : Cause
+  from_equal = either equal from_many
+
+  abbrev from_cyclic : Cause
+  from_cyclic = either cyclic from_equal
+
+  abbrev from_unbound : Cause
+  from_unbound = either unbound from_cyclic
+
+  abbrev from_empty : Cause
+  from_empty = either empty from_unbound
+
+  -- from there on no two scenarios are equal
+  different : (s : Status) (x : List ℕ) → from_many s x → (orders : List Order) × AreOrdersIn f orders × AreDifferent orders
+  different s x (inl h) = (h.1.orders, h.1.of_file, h.1.different)
+  different s x (inr h) = (h.1.synthesis.orders, h.1.synthesis.of_file, h.1.synthesis.different)
+
+  -- and none has an operation before itself
+  ordered : (s : Status) (x : List ℕ) → from_equal s x → (orders : List Order) × AreOrdersIn f orders
+  ordered s x (inl h) = (h.1.orders, h.1.of_file)
+  ordered s x (inr h) = let k = different s x h in (k.0, k.1)
+
+  -- none leaves a parameter open
+  denoted : (s : Status) (x : List ℕ) → from_cyclic s x → (scenarios : List Scenario) × AreScenariosOf f scenarios
+  denoted s x (inl h) = (h.1.scenarios, h.1.denoted)
+  denoted s x (inr h) = let k = ordered s x h in (k.1.scenarios, k.1.denoted)
+
+  -- names are in order
+  in_order : (s : Status) (x : List ℕ) → from_cyclic s x → name_faults f ≡ []
+  in_order s x (inl h) = h.1.named
+  in_order s x (inr h) = (ordered s x h).1.named
+
+  named : (s : Status) (x : List ℕ) → from_empty s x → name_faults f ≡ []
+  named s x (inl h) = h.1.named
+  named s x (inr (inl h)) = h.1.named
+  named s x (inr (inr h)) = in_order s x h
+
+  -- ---- each stands where none before it does
+
+  no_fault : (x : List ℕ) → name_faults f ≡ [] → IsNameFaultAnswer f x → ⊥
+  no_fault x none h = none-some h.fault (ap first (sym none) ∙ told (name_faults f) h.fault x h.first h.output_is)
+
+  -- a file without scenarios has none that is cyclic, equal to another, or printed
+  none_there : (s : Status) (x : List ℕ) → stated_in f ≡ [] → from_unbound s x → ⊥
+  none_there s x none (inl h) = none-some h.1.first.scenario (ap (λ xs. slice_get xs h.1.first.place) (sym none) ∙ h.1.first.stands)
+  none_there s x none (inr (inl h)) = no_cycle h.1
+    where
+      no_cycle : IsCyclicAnswer f x → ⊥
+      no_cycle h = none-some h.scenario_name (ap (λ xs. slice_get (map (λ (y : Stated). y.name) xs) h.number) (sym none) ∙ h.scenario_is)
+  none_there s x none (inr (inr (inl h))) = none-some h.1.later_name (ap (λ xs. slice_get (map (λ (y : Stated). y.name) xs) h.1.later) (sym none) ∙ h.1.later_is)
+  none_there s x none (inr (inr (inr (inl h)))) = absurd (omega (arith, h.1.many, no_orders h.1.orders h.1.of_file))
+    where
+      no_orders : (orders : List Order) → AreOrdersIn f orders → length orders ≡ 0
+      no_orders orders z = length-orders z.scenarios orders z.of_scenarios ∙ length-denoted (length f.operations) (stated_in f) z.scenarios z.denoted ∙ ap length none
+  none_there s x none (inr (inr (inr (inr h)))) =
+      let names : length h.1.report.scenario_names ≡ 0 = ap length h.1.synthesis.scenario_names ∙ length-map (stated_in f) _ ∙ ap length none in
+      absurd (omega (arith, names, h.1.synthesis.report.one_name_each, h.1.synthesis.report.some_scenario))
+
+  many_or_report : AreApart many report
+  many_or_report s t x y h k =
+      let same : length h.1.orders ≡ length k.1.synthesis.orders = ap length (one_orders f h.1.orders k.1.synthesis.orders h.1.of_file k.1.synthesis.of_file) in
+      let few : length k.1.synthesis.orders ≤ 2 ^ 1 = subst (λ bits. length k.1.synthesis.orders ≤ 2 ^ bits) k.1.synthesis.bits k.1.synthesis.enough_bits in
+      absurd (omega (arith, same, few, h.1.many))
+
+  equal_or_more : AreApart equal from_many
+  equal_or_more s t x y h k =
+      let rest = different t y k in
+      rest.2 h.1.later h.1.earlier (subst (λ os. AreEqualAt os h.1.later h.1.earlier) (one_orders f h.1.orders rest.0 h.1.of_file rest.1) h.1.first.equal)
+
+  cyclic_or_more : AreApart cyclic from_equal
+  cyclic_or_more s t x y h k =
+      let rest = ordered t y k in
+      cyclic_or_orders rest.1.scenarios rest.0 h.1.number h.1.operation (cyclic_again f h.1.scenarios rest.1.scenarios h.1.number h.1.operation h.1.denoted rest.1.denoted h.1.first) rest.1.of_scenarios
+
+  unbound_or_more : AreApart unbound from_cyclic
+  unbound_or_more s t x y h k =
+      let rest = denoted t y k in
+      none_open (length f.operations) (stated_in f) rest.0 rest.1 h.1.first.place h.1.number h.1.first.scenario h.1.first.stands h.1.first.unbound
+
+  -- ---- a file has one answer
+
+  one_synth : IsOne (either name_fault from_empty)
+  one_synth =
+      one_either name_fault from_empty (one_at status.Names (IsNameFaultAnswer f) one_fault_answer)
+      (one_either empty from_unbound (one_at status.Names (IsEmptyAnswer f) one_empty_answer)
+      (one_either unbound from_cyclic (one_at status.Names (IsUnboundAnswer f) one_unbound_answer)
+      (one_either cyclic from_equal (one_at status.Cyclic (IsCyclicAnswer f) one_cyclic_answer)
+      (one_either equal from_many (one_at status.Equal (IsEqualAnswer f) one_equal_answer)
+      (one_either many report (one_at status.Limit (IsManyAnswer f) one_many_answer) (one_at status.Ok (IsReportAnswer f) one_report_answer) many_or_report)
+      equal_or_more)
+      cyclic_or_more)
+      unbound_or_more)
+      (λ s t x y h k. none_there t y h.1.none k))
+      (λ s t x y h k. no_fault x (named t y k) h.1)
+
+  one_normal : IsOne (either name_fault forms)
+  one_normal = one_either name_fault forms (one_at status.Names (IsNameFaultAnswer f) one_fault_answer) (one_at status.Ok (IsFormsAnswer f) one_forms_answer) (λ s t x y h k. no_fault x k.1.of_file.names h.1)
+
+  of_names : (x : List ℕ) → IsNameFaultAnswer f x ⊎ (IsEmptyAnswer f x ⊎ IsUnboundAnswer f x) → either name_fault from_empty status.Names x
+  of_names x (inl h) = inl (refl, h)
+  of_names x (inr (inl h)) = inr (inl (refl, h))
+  of_names x (inr (inr h)) = inr (inr (inl (refl, h)))
+
+  of_synth : (s : Status) (x : List ℕ) → IsSynthAnswer f s x → either name_fault from_empty s x
+  of_synth status.Ok x h = inr (inr (inr (inr (inr (inr (refl, h))))))
+  of_synth status.Names x h = of_names x h
+  of_synth status.Cyclic x h = inr (inr (inr (inl (refl, h))))
+  of_synth status.Equal x h = inr (inr (inr (inr (inl (refl, h)))))
+  of_synth status.Limit x h = inr (inr (inr (inr (inr (inl (refl, h))))))
+  of_synth other x h = absurd h
+
+  of_normal : (s : Status) (x : List ℕ) → IsNormalAnswer f s x → either name_fault forms s x
+  of_normal status.Ok x h = inr (refl, h)
+  of_normal status.Names x h = inl (refl, h)
+  of_normal other x h = absurd h
+
+  pub file_answers_agree : (c : Command) (s t : Status) (x y : List ℕ) → IsFileAnswer c f s x → IsFileAnswer c f t y → Agree s x t y
+  file_answers_agree command.Synth s t x y h k = one_synth s t x y (of_synth s x h) (of_synth t y k)
+  file_answers_agree command.Normal s t x y h k = one_normal s t x y (of_normal s x h) (of_normal t y k)

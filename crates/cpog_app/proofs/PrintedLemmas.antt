@@ -8,14 +8,14 @@ use Rattle.handshake_eqs.specs.Machines.{IsRequested, IsDone}
 use Rattle.handshake_eqs.proofs.NetlistLemmas.{agrees_over_runs}
 use Rattle.netlist_verilog.proofs.ValueLemmas.{outputs_settled}
 use Rattle.line_text.specs.Lines.{text_of}
-use Rattle.plain_text.specs.Contents.{Contents}
+use Rattle.pg_text.specs.Contents.{Contents}
 use Rattle.report_text.specs.Report.{ReportValue, module_of}
 use Rattle.report_text.specs.Rows.{report_lines}
 use Rattle.report_text.specs.Laws.{EndsWithModule}
 use Rattle.report_text.proofs.ModuleLemmas.{module_lawful, module_ends}
 use Rattle.cpog_app.specs.Synthesis.{IsSynthesis}
 use Rattle.cpog_app.specs.Printed.{ShowsEachRun}
-use Rattle.cpog_app.specs.Allowed.{IsReportAnswer}
+use Rattle.cpog_app.specs.Answers.{IsReportAnswer}
 use Rattle.cpog_app.proofs.ReportLemmas.{orders_are}
 
 -- the report's netlist shows each run
@@ -23,7 +23,7 @@ shows_each_run : (f : Contents) (r : ReportValue) (is : IsSynthesis f r) → Sho
 shows_each_run f r is events m i at run inputs settled =
     let count : length r.encoding.graph.ops ≡ length r.names = is.report.encoding.graph.ops in
     let names : length r.names ≡ length f.operations = ap length is.names in
-    let orders : All (IsOrderOf (length r.encoding.graph.ops)) is.orders = subst (λ n. All (IsOrderOf n) is.orders) (sym (count ∙ names)) (orders_are f is.orders is.of_scenarios (omega (arith, is.codes.one_each, is.report.one_code_each, is.report.some_scenario))) in
+    let orders : All (IsOrderOf (length r.encoding.graph.ops)) is.orders = subst (λ n. All (IsOrderOf n) is.orders) (sym (count ∙ names)) (orders_are f is.orders is.of_file) in
     let encoding : IsEncoding (length r.encoding.graph.ops) r.encoding = subst (λ n. IsEncoding n r.encoding) (sym count) is.report.encoding in
     let shown = agrees_over_runs r.encoding r.netlist encoding is.report.netlist is.orders orders is.encodes.fits events m run i inputs in
     let outputs = outputs_settled (module_of r) i at (module_lawful r is.report) settled in

@@ -1,18 +1,14 @@
 -- A file has one report: each part of a report is fixed by the file.
-use Rattle.std.proofs.Common.{arith, ◌≡◌, ◌↔◌, ℕ, ◌<◌, Bool, true, false, IsTrue, List, [], ◌∷◌, length, map, slice_index_or, refl, sym, ap, ap₂, ◌∙◌, subst, inl, inr}
-use Rattle.std.specs.FinSet as set
-use Rattle.std.specs.FinMap.{nat_cmp-IsAntisymmetric}
+use Rattle.std.proofs.Common.{arith, ◌≡◌, ℕ, ◌<◌, false, List, [], length, map, slice_index_or, sym, ap, ◌∙◌, subst, inl, inr}
 use Rattle.std.proofs.lemmas.Bool.{cases_eq}
-use Rattle.std.proofs.lemmas.Cmp.{nat_cmp_total}
 use Rattle.std.proofs.lemmas.List.{ext_get_or}
 use Rattle.cpog_defs.specs.declared.types.Ref.TheVariants.{Const}
 use Rattle.cpog_defs.specs.declared.types.Place.TheVariants.{Op, Arc}
-use Rattle.cpog_defs.specs.Orders.{Order, is_before}
-use Rattle.cpog_defs.specs.Scenarios.{Scenario, IsBefore, IsOrderOfScenario, AreOrdersOf}
+use Rattle.cpog_defs.specs.Orders.{Order}
 use Rattle.cpog_defs.specs.Gates.{GateList}
 use Rattle.cpog_defs.specs.Graphs.{ConditionalGraph}
 use Rattle.cpog_defs.specs.Encodings.{Encoding}
-use Rattle.plain_text.specs.Contents.{Contents}
+use Rattle.pg_text.specs.Contents.{Contents}
 use Rattle.report_text.specs.declared.bound.Bound.{Bound}
 use Rattle.report_text.specs.declared.bound.Bound.TheVariants.{Minimum, Unknown}
 use Rattle.report_text.specs.Report.{ReportValue}
@@ -20,35 +16,8 @@ use Rattle.cpog_app.specs.Scenarios.{covering_scenario}
 use Rattle.handshake_eqs.specs.Netlists.{IsNetlistOf}
 use Rattle.report_text.proofs.NetlistLemmas.{one_netlist}
 use Rattle.cpog_app.specs.Conditions.{IsOneBitEncoding}
-use Rattle.cpog_app.specs.Synthesis.{scenarios_of, IsBoundOf, IsSynthesis}
-
--- ---- one order for a scenario
-
--- two tests of one fact are equal
-same_test : (a b : Bool) (P : Type 0) → IsTrue a ↔ P → IsTrue b ↔ P → a ≡ b
-same_test true true P h k = refl
-same_test true false P h k = sym (k.1 (h.0 refl))
-same_test false true P h k = h.1 (k.0 refl)
-same_test false false P h k = refl
-
--- orders of equal parts are equal
-same_order : (a b : Order) → a.count ≡ b.count → a.ops ≡ b.ops → a.before ≡ b.before → a ≡ b
-same_order a b count ops before = λ i. record { count = count i; ops = ops i; before = before i }
-
--- its numbers and operations are the scenario's, and each row of it is fixed by the walks
-one_order : (sc : Scenario) (a b : Order) → IsOrderOfScenario sc a → IsOrderOfScenario sc b → a ≡ b
-one_order sc a b h k = same_order a b (h.count ∙ sym k.count) (h.ops ∙ sym k.ops)
-    (ext_get_or set.empty a.before b.before (h.order.rows ∙ h.count ∙ sym k.count ∙ sym k.order.rows)
-    (λ v l. set.same_set nat_cmp_total nat_cmp-IsAntisymmetric _ _ (λ u. same_test (is_before a u v) (is_before b u v) (IsBefore sc u v) (h.before u v) (k.before u v))))
-
--- scenarios have one list of orders
-one_orders : (xs : List Scenario) (os ps : List Order) → AreOrdersOf xs os → AreOrdersOf xs ps → os ≡ ps
-one_orders [] [] [] h k = refl
-one_orders [] [] (p ∷ ps) h k = absurd k
-one_orders [] (o ∷ os) ps h k = absurd h
-one_orders (x ∷ xs) [] ps h k = absurd h
-one_orders (x ∷ xs) (o ∷ os) [] h k = absurd k
-one_orders (x ∷ xs) (o ∷ os) (p ∷ ps) h k = ap₂ (λ z zs. z ∷ zs) (one_order x o p h.0 k.0) (one_orders xs os ps h.1 k.1)
+use Rattle.cpog_app.specs.Synthesis.{IsBoundOf, IsSynthesis}
+use Rattle.cpog_app.proofs.OrderAgreement.{one_orders}
 
 -- ---- one report for a file
 
@@ -106,7 +75,7 @@ same_report a b bits budget names scenario_names scenarios encoding bound netlis
 -- a file has one report
 pub one_report : (f : Contents) (a b : ReportValue) → IsSynthesis f a → IsSynthesis f b → a ≡ b
 one_report f a b h k =
-    let same : k.orders ≡ h.orders = one_orders (scenarios_of f) k.orders h.orders k.of_scenarios h.of_scenarios in
+    let same : k.orders ≡ h.orders = one_orders f k.orders h.orders k.of_file h.of_file in
     let encoding = one_encoding (length f.operations) h.orders a.encoding b.encoding h.conditions (subst (λ os. IsOneBitEncoding (length f.operations) os b.encoding) same k.conditions) in
     same_report a b (h.bits ∙ sym k.bits) (h.budget ∙ sym k.budget) (h.names ∙ sym k.names) (h.scenario_names ∙ sym k.scenario_names)
     (h.scenarios ∙ sym (ap (λ os. map covering_scenario os) same) ∙ sym k.scenarios)

@@ -2,36 +2,34 @@
 use Rattle.std.proofs.Common.{◌≡◌, ◌≢◌, ℕ, zero, suc, ◌+◌, ◌-◌, ◌<◌, ◌≤◌, Bool, true, false, IsTrue, List, [], ◌∷◌, ◌++◌, length, map, take, IsSomeAnd, slice_index_or, slice_get, Some, if◌then◌else◌, refl, sym, ap, ◌∙◌, subst, arith, inl, inr, length-append}
 use Rattle.std.specs.List.{All, AllPairs}
 use Rattle.std.proofs.lemmas.Bool.{cases_lt, both_ways, or_cases, and_parts}
-use Rattle.std.proofs.lemmas.Option.{none-some, same_Some}
+use Rattle.std.proofs.lemmas.Option.{none-some, same_Some, slice_get-get_or}
 use Rattle.std.proofs.lemmas.List.{get_or_append_left, get_or-append_right, length-map, length-replicate}
 use Rattle.std.proofs.lemmas.List.Elements.{All-from_recursion}
 use Rattle.cpog_defs.specs.declared.types.OpId.{OpId}
 use Rattle.cpog_defs.specs.Orders.{Order, is_before, is_covered, IsOrderOf, each_below, arc_of}
-use Rattle.cpog_defs.specs.Scenarios.{Scenario, HasArc, IsBefore, IsOrderOfScenario, IsLeastCyclic, AreOrdersOf}
+use Rattle.cpog_defs.specs.Walks.{last, more}
+use Rattle.cpog_defs.specs.Scenarios.{Scenario, IsScenario, HasArc, IsBefore, IsOrderOfScenario, IsLeastCyclic, AreOrdersOf}
 use Rattle.cpog_base.specs.Arcs.{has_arc}
 use Rattle.cpog_base.proofs.ArcLemmas.{has_from_contains}
 use Rattle.cpog_merge.specs.Table.{count_of}
-use Rattle.pg_algebra.specs.Graphs.{Graph}
 use Rattle.cpog_merge.proofs.ScenarioLemmas.{fits_is_fitting_scenarios_lem}
 use Rattle.cpog_defs.specs.declared.types.Bit3.{Bit3}
 use Rattle.cpog_defs.specs.Codes.{bit, AreCodes, KeepGivenBits, open_patterns}
 use Rattle.cpog_defs.specs.Entries.{Agrees, entry_at}
 use Rattle.cpog_defs.specs.Encodings.{Encoding, IsEncoding, Fits}
 use Rattle.handshake_eqs.specs.Netlists.{Netlist, IsNetlistOf}
-use Rattle.line_text.specs.Words.{is_free_name}
-use Rattle.plain_text.specs.Meaning.{graph_of}
-use Rattle.plain_text.specs.declared.statement.Statement.{Statement}
-use Rattle.plain_text.specs.declared.statement.Statement.TheVariants as statement
-use Rattle.plain_text.specs.declared.statement.Numbered.{Numbered}
-use Rattle.plain_text.specs.Contents.{Contents}
-use Rattle.plain_text.specs.Text.{IsFile, IsStatementOver}
+use Rattle.pg_text.specs.Contents.{Contents}
+use Rattle.pg_text.specs.Text.{IsFile}
 use Rattle.report_text.specs.declared.bound.Bound.TheVariants.{Minimum}
 use Rattle.report_text.specs.Report.{IsArcBefore, IsReport, IsReported}
 use Rattle.cpog_app.specs.Conditions.{IsOneBitEncoding}
-use Rattle.cpog_app.specs.Synthesis.{name_of, expr_of, scenarios_of, scenario_names_of, IsFirstCyclic, IsSynthesis}
-use Rattle.cpog_app.specs.Scenarios.{arcs_from, arcs_where, scenario_of, covering_scenario}
-use Rattle.cpog_app.proofs.ArcLemmas.{from_u, begin_below, has_one, has_append, walk_below}
-use Rattle.cpog_app.proofs.ListLemmas.{some_at, map_get}
+use Rattle.cpog_app.specs.Denoting.{Stated, stated_in, scenario_names_of, IsDenoted, AreDenoted, AreOrdersIn}
+use Rattle.cpog_app.specs.Synthesis.{IsFirstCyclic, AreDifferent, IsSynthesis}
+use Rattle.cpog_app.specs.Scenarios.{arcs_from, arcs_where, covering_scenario}
+use Rattle.cpog_app.proofs.ArcLemmas.{from_u, begin_below, has_one, has_append}
+use Rattle.cpog_app.proofs.DenotingLemmas.{length-denoted}
+use Rattle.cpog_app.proofs.FileNames.{operations_are_names, scenarios_have_names, operations_are_distinct}
+use Rattle.cpog_app.proofs.OpenLemmas.{agreeing}
 
 -- ---- arcs that are gathered by their ends ascend
 
@@ -156,13 +154,19 @@ length-orders [] (o ∷ os) z = absurd z
 length-orders (x ∷ xs) [] z = absurd z
 length-orders (x ∷ xs) (o ∷ os) z = ap suc (length-orders xs os z.1)
 
+-- a scenario of so many operations
+sized : (count : ℕ) (x : Stated) (sc : Scenario) → IsDenoted count x sc → sc.count ≡ count
+sized count x sc d = let n = agreeing x in (d n.0 n.1 n.2).size
+
 -- the orders of a file's scenarios are of one count
-pub alike : {S : Type 0} (n : ℕ) (g : S → Graph) (ss : List S) (os : List Order) → AreOrdersOf (map (λ s. scenario_of n (g s)) ss) os → All (IsOrderOf n) os
-alike n g [] [] z k d l = absurd (omega arith)
-alike n g [] (o ∷ os) z k d l = absurd z
-alike n g (s ∷ ss) [] z k d l = absurd z
-alike n g (s ∷ ss) (o ∷ os) z zero d l = record { count_is = z.0.count; order = z.0.order }
-alike n g (s ∷ ss) (o ∷ os) z (suc k) d l = alike n g ss os z.1 k d (omega arith)
+alike : (count : ℕ) (xs : List Stated) (scs : List Scenario) (os : List Order) → AreDenoted count xs scs → AreOrdersOf scs os → All (IsOrderOf count) os
+alike count [] [] [] h z k d l = absurd (omega arith)
+alike count [] [] (o ∷ os) h z k d l = absurd z
+alike count [] (s ∷ scs) os h z k d l = absurd h
+alike count (x ∷ xs) [] os h z k d l = absurd h
+alike count (x ∷ xs) (s ∷ scs) [] h z k d l = absurd z
+alike count (x ∷ xs) (s ∷ scs) (o ∷ os) h z zero d l = record { count_is = z.0.count ∙ sized count x s h.0; order = z.0.order }
+alike count (x ∷ xs) (s ∷ scs) (o ∷ os) h z (suc k) d l = alike count xs scs os h.1 z.1 k d (omega arith)
 
 pub count_is : (n : ℕ) (os : List Order) → 0 < length os → All (IsOrderOf n) os → count_of os ≡ n
 count_is n [] l all = absurd (omega arith)
@@ -177,40 +181,41 @@ all_map P Q f step (x ∷ xs) h (suc k) d l = all_map P Q f step xs (λ i e m. h
 
 -- ---- the report of a file
 
-module _ (f : Contents) (orders : List Order) (z : AreOrdersOf (scenarios_of f) orders) (some : 0 < length f.statements) where
-  -- a scenario has its order
-  pub orders_each : length orders ≡ length f.statements
-  orders_each = length-orders (scenarios_of f) orders z ∙ length-map f.statements _
-
+module _ (f : Contents) (orders : List Order) (z : AreOrdersIn f orders) where
   pub orders_are : All (IsOrderOf (length f.operations)) orders
-  orders_are = alike (length f.operations) (λ s. graph_of (expr_of s.statement)) f.statements orders z
+  orders_are = alike (length f.operations) (stated_in f) z.scenarios orders z.denoted z.of_scenarios
 
+  -- a scenario has its order, and its name
+  pub names_each : length (scenario_names_of f) ≡ length orders
+  names_each = length-map (stated_in f) _ ∙ sym (length-denoted (length f.operations) (stated_in f) z.scenarios z.denoted) ∙ sym (length-orders z.scenarios orders z.of_scenarios)
+
+-- a file with a scenario
+module _ (f : Contents) (orders : List Order) (z : AreOrdersIn f orders) (some : 0 < length orders) where
   pub same_count : count_of orders ≡ length f.operations
-  same_count = count_is (length f.operations) orders (omega (arith, orders_each)) orders_are
+  same_count = count_is (length f.operations) orders some (orders_are f orders z)
 
   pub orders_alike : All (IsOrderOf (count_of orders)) orders
-  orders_alike = subst (λ n. All (IsOrderOf n) orders) (sym same_count) orders_are
+  orders_alike = subst (λ n. All (IsOrderOf n) orders) (sym same_count) (orders_are f orders z)
 
-  -- the report of a lawful file is lawful
-  pub report_is_lawful : IsFile f → (e : Encoding) → IsOneBitEncoding (count_of orders) orders e → AreCodes 1 (length orders) e.codes → (n : Netlist) → IsNetlistOf e n →
+  -- the report of a file is lawful
+  pub report_is_lawful : IsFile f → length orders ≤ 64 → (e : Encoding) → IsOneBitEncoding (count_of orders) orders e → AreCodes 1 (length orders) e.codes → (n : Netlist) → IsNetlistOf e n →
       IsReport (record { bits = 1; budget = 2000000; names = f.operations; scenario_names = scenario_names_of f; scenarios = map covering_scenario orders; encoding = e; bound = Minimum 0; netlist = n })
-  report_is_lawful file e is codes n equations =
-      let covering : length (map covering_scenario orders) ≡ length f.statements = length-map orders covering_scenario ∙ orders_each in
-      let names : length (scenario_names_of f) ≡ length f.statements = length-map f.statements _ in
+  report_is_lawful file few e is codes n equations =
+      let covering : length (map covering_scenario orders) ≡ length orders = length-map orders covering_scenario in
       let no_gate : length e.gates.gates ≡ 0 = ap length is.no_gate in
       record {
         some_bit = omega arith;
         few_bits = omega arith;
         some_budget = omega arith;
         few_budget = omega arith;
-        few_names = file.few_operations;
-        names = All-from_recursion (λ name. IsTrue (is_free_name name)) f.operations file.names;
-        distinct = file.distinct;
-        some_scenario = omega (arith, covering);
-        few_scenarios = omega (arith, covering, file.few_scenarios);
-        one_name_each = names ∙ sym covering;
-        scenario_names = all_map (λ (s : Numbered). IsStatementOver (length f.operations) s.statement) (λ name. IsTrue (is_free_name name)) (λ s. name_of s.statement) (λ s. named s.statement) f.statements (All-from_recursion (λ (s : Numbered). IsStatementOver (length f.operations) s.statement) f.statements file.statements);
-        scenarios = all_map (IsOrderOf (length f.operations)) (IsReported (length f.operations)) covering_scenario (reported (length f.operations)) orders orders_are;
+        few_names = file.1.few_operations;
+        names = operations_are_names f file;
+        distinct = operations_are_distinct f file;
+        some_scenario = omega (arith, covering, some);
+        few_scenarios = omega (arith, covering, few);
+        one_name_each = names_each f orders z ∙ sym covering;
+        scenario_names = scenarios_have_names f file;
+        scenarios = all_map (IsOrderOf (length f.operations)) (IsReported (length f.operations)) covering_scenario (reported (length f.operations)) orders (orders_are f orders z);
         inputs = is.inputs;
         one_code_each = codes.one_each ∙ sym (length-map orders covering_scenario);
         few_gates = omega (arith, no_gate);
@@ -218,25 +223,23 @@ module _ (f : Contents) (orders : List Order) (z : AreOrdersOf (scenarios_of f) 
         bound = refl;
         netlist = equations;
       }
-    where
-      named : (s : Statement) → IsStatementOver (length f.operations) s → IsTrue (is_free_name (name_of s))
-      named (statement.Scenario name x) h = h.0
 
   -- and is its synthesis
-  pub report_is_synthesis : IsFile f → length f.statements ≤ 2 → (e : Encoding) → IsOneBitEncoding (count_of orders) orders e → AreCodes 1 (length orders) e.codes → Fits e orders → (n : Netlist) → IsNetlistOf e n →
+  pub report_is_synthesis : IsFile f → length orders ≤ 2 → AreDifferent orders → (e : Encoding) → IsOneBitEncoding (count_of orders) orders e → AreCodes 1 (length orders) e.codes → Fits e orders → (n : Netlist) → IsNetlistOf e n →
       IsSynthesis f (record { bits = 1; budget = 2000000; names = f.operations; scenario_names = scenario_names_of f; scenarios = map covering_scenario orders; encoding = e; bound = Minimum 0; netlist = n })
-  report_is_synthesis file few e is codes fits n equations = record {
-    report = report_is_lawful file e is codes n equations;
+  report_is_synthesis file few different e is codes fits n equations = record {
+    report = report_is_lawful file (omega (arith, few)) e is codes n equations;
     bits = refl;
     budget = refl;
     names = refl;
     scenario_names = refl;
-    enough_bits = few;
     orders = orders;
-    of_scenarios = z;
+    of_file = z;
+    different = different;
+    enough_bits = few;
     scenarios = refl;
-    codes = subst (λ n. AreCodes 1 n e.codes) orders_each codes;
-    fits = (fits_is_fitting_scenarios_lem e (scenarios_of f) orders z).0 fits;
+    codes = codes;
+    fits = (fits_is_fitting_scenarios_lem e z.scenarios orders z.of_scenarios).0 fits;
     encodes = record {
       bits_are = is.inputs;
       codes = codes;
@@ -248,6 +251,9 @@ module _ (f : Contents) (orders : List Order) (z : AreOrdersOf (scenarios_of f) 
     bound = (sym (ap length is.no_gate), λ cost l h. absurd (omega arith));
   }
 
+slice_get_at : (xs : List Scenario) (k : ℕ) (x : Scenario) → k < length xs → x ≡ slice_index_or xs k x → slice_get xs k ≡ Some x
+slice_get_at xs k x l is = slice_get-get_or xs k x l ∙ ap Some (sym is)
+
 -- where those before it have orders, a scenario with an operation before itself is the first
 pub first_cyclic : (xs : List Scenario) (os : List Order) (s v : ℕ) (x : Scenario) → s < length xs → x ≡ slice_index_or xs s x → AreOrdersOf (take s xs) os → IsLeastCyclic x v → IsFirstCyclic xs s v
 first_cyclic xs os s v x l is z least = record {
@@ -255,20 +261,24 @@ first_cyclic xs os s v x l is z least = record {
   earlier = λ t w sc before at h. none_cyclic (take s xs) os z t w sc (get_before xs s t sc before at) h;
 }
   where
-    slice_get_at : (ys : List Scenario) (k : ℕ) (y : Scenario) → k < length ys → y ≡ slice_index_or ys k y → slice_get ys k ≡ Some y
-    slice_get_at [] k y l e = absurd (omega arith)
-    slice_get_at (z ∷ ys) zero y l e = ap Some (sym e)
-    slice_get_at (z ∷ ys) (suc k) y l e = slice_get_at ys k y (omega arith) e
-
     get_before : (ys : List Scenario) (n k : ℕ) (y : Scenario) → k < n → slice_get ys k ≡ Some y → slice_get (take n ys) k ≡ Some y
     get_before [] n k y l e = absurd (none-some y e)
     get_before (z ∷ ys) zero k y l e = absurd (omega arith)
     get_before (z ∷ ys) (suc n) zero y l e = e
     get_before (z ∷ ys) (suc n) (suc k) y l e = get_before ys n k y (omega arith) e
 
--- the operation that is before itself has a name
-pub cyclic_below : (f : Contents) (s v : ℕ) → IsFirstCyclic (scenarios_of f) s v → v < length f.operations
-cyclic_below f s v first =
-    let at = some_at (λ sc. IsLeastCyclic sc v) (slice_get (scenarios_of f) s) first.here in
-    let from = map_get (λ (x : Numbered). scenario_of (length f.operations) (graph_of (expr_of x.statement))) f.statements s at.0 at.1 in
-    walk_below (length f.operations) (graph_of (expr_of from.0.statement)) v v (subst (λ sc. IsBefore sc v v) from.1 at.2.is_cyclic)
+-- it is below the count of its scenario
+cyclic_below : (sc : Scenario) (v : ℕ) → IsScenario sc → IsBefore sc v v → v < sc.count
+cyclic_below sc v is (last e) = is.below v (is.first_kept v v e)
+cyclic_below sc v is (more {v = z} e w) = is.below v (is.first_kept v z e)
+
+pub told_below : (xs : List Scenario) (s v : ℕ) (x : Scenario) → s < length xs → x ≡ slice_index_or xs s x → IsScenario x → IsLeastCyclic x v → IsSomeAnd (slice_get xs s) (λ sc. v < sc.count)
+told_below xs s v x l is scenario least = subst (λ o. IsSomeAnd o (λ sc. v < sc.count)) (sym (slice_get_at xs s x l is)) (cyclic_below x v scenario least.is_cyclic)
+
+-- and so below the number of operations
+pub operation_below : (count : ℕ) (xs : List Stated) (scs : List Scenario) (s v : ℕ) → AreDenoted count xs scs → IsSomeAnd (slice_get scs s) (λ sc. v < sc.count) → v < count
+operation_below count [] [] s v h l = absurd l
+operation_below count [] (c ∷ scs) s v h l = absurd h
+operation_below count (x ∷ xs) [] s v h l = absurd h
+operation_below count (x ∷ xs) (c ∷ scs) zero v h l = omega (arith, l, sized count x c h.0)
+operation_below count (x ∷ xs) (c ∷ scs) (suc s) v h l = operation_below count xs scs s v h.1 l

@@ -1,66 +1,20 @@
 -- What a run may print, by its status.
-use Rattle.std.specs.Prelude.{◌≡◌, ◌⊎◌, List, [], ℕ, ◌<◌, ◌≤◌, length, slice_get, Option, Some, None}
+use Rattle.std.specs.Prelude.{◌≡◌, ◌⊎◌, List, ℕ, ◌≤◌, length, Option, Some, None}
 use Rattle.std.specs.Io.KnownBytes.{Appends, Keeps}
 use Rattle.cpog_base.specs.declared.limits.Counted.{Counted}
 use Rattle.cpog_base.specs.declared.limits.Counted.TheVariants as counted
 use Rattle.cpog_base.specs.declared.status.Status.{Status}
 use Rattle.cpog_base.specs.declared.status.Status.TheVariants as status
-use Rattle.cpog_defs.specs.Orders.{Order}
-use Rattle.cpog_defs.specs.Scenarios.{AreOrdersOf}
 use Rattle.cpog_outside.specs.Causes.{Rose}
 use Rattle.cpog_outside.specs.Told.{IsAllOf, IsLonger, TakesFront}
-use Rattle.line_text.specs.Lines.{text_of}
-use Rattle.plain_text.specs.Contents.{Contents}
-use Rattle.plain_text.specs.Lines.{graph_lines, IsFirstBad}
-use Rattle.plain_text.specs.Text.{IsFileOf, IsGoodLine, IsPassed}
-use Rattle.report_text.specs.Report.{ReportValue}
-use Rattle.report_text.specs.Rows.{report_lines}
+use Rattle.pg_text.specs.Contents.{Contents}
+use Rattle.pg_text.specs.Lines.{graph_lines, IsFirstBad}
+use Rattle.pg_text.specs.Text.{IsFileOf, IsGoodLine, IsPassed}
 use Rattle.cpog_app.specs.declared.refusal.Refusal.TheVariants as refusal
 use Rattle.cpog_app.specs.declared.words.Command.{Command}
-use Rattle.cpog_app.specs.declared.words.Command.TheVariants as command
 use Rattle.cpog_app.specs.Words.{command_of}
 use Rattle.cpog_app.specs.Refusal.{refusal_text}
-use Rattle.cpog_app.specs.Synthesis.{scenarios_of, scenario_names_of, IsFirstCyclic, IsSynthesis}
-use Rattle.cpog_app.specs.Printed.{PrintsController}
-
--- ---- what is printed for a file
-
--- the text of its report, which ends with a controller of its scenarios under the printed codes
-pub record IsReportAnswer (f : Contents) (output : List ℕ) : Type 0 where
-  pub report : ReportValue
-  pub synthesis : IsSynthesis f report
-  pub output_is : output ≡ text_of (report_lines report)
-  pub controller : PrintsController f.operations synthesis.orders report.encoding.codes output
-
--- the first scenario that has an operation before itself, and its least such operation
-pub record IsCyclicAnswer (f : Contents) (output : List ℕ) : Type 0 where
-  pub number : ℕ
-  pub operation : ℕ
-  pub first : IsFirstCyclic (scenarios_of f) number operation
-  pub scenario_name : List ℕ
-  pub scenario_is : slice_get (scenario_names_of f) number ≡ Some scenario_name
-  pub operation_name : List ℕ
-  pub operation_is : slice_get f.operations operation ≡ Some operation_name
-  pub output_is : output ≡ refusal_text (refusal.Cyclic scenario_name operation_name)
-
--- no scenario has an operation before itself, and there are more of them than codes of one bit
-pub record IsManyAnswer (f : Contents) (output : List ℕ) : Type 0 where
-  pub orders : List Order
-  pub of_scenarios : AreOrdersOf (scenarios_of f) orders
-  pub many : 2 < length f.statements
-  pub output_is : output ≡ refusal_text (refusal.Limit counted.Bits 1)
-
--- there is no scenario
-pub record IsEmptyAnswer (f : Contents) (output : List ℕ) : Type 0 where
-  pub none : f.statements ≡ []
-  pub output_is : output ≡ refusal_text refusal.NoScenario
-
-abbrev pub IsFileAnswer : Contents → Status → List ℕ → Type 0
-IsFileAnswer f status.Ok output = IsReportAnswer f output
-IsFileAnswer f status.Names output = IsEmptyAnswer f output
-IsFileAnswer f status.Cyclic output = IsCyclicAnswer f output
-IsFileAnswer f status.Limit output = IsManyAnswer f output
-IsFileAnswer f other output = ⊥
+use Rattle.cpog_app.specs.Answers.{IsFileAnswer}
 
 -- ---- what is printed for a text
 
@@ -73,22 +27,24 @@ pub record IsBadLineAnswer (bytes : List ℕ) (output : List ℕ) : Type 0 where
 -- the first count that passes its limit
 pub record IsPassedAnswer (bytes : List ℕ) (output : List ℕ) : Type 0 where
   pub what : Counted
-  pub passed : IsPassed bytes what
-  pub output_is : output ≡ refusal_text (refusal.Limit what 64)
+  pub limit : ℕ
+  pub passed : IsPassed bytes what limit
+  pub output_is : output ≡ refusal_text (refusal.Limit what limit)
 
--- the answer to the file that the text spells
-pub record IsAnswerOfFile (bytes : List ℕ) (s : Status) (output : List ℕ) : Type 0 where
+-- the command's answer to the file that the text spells
+pub record IsAnswerOfFile (command : Command) (bytes : List ℕ) (s : Status) (output : List ℕ) : Type 0 where
   pub file : Contents
   pub is_file : IsFileOf bytes file
-  pub answer : IsFileAnswer file s output
+  pub answer : IsFileAnswer command file s output
 
-abbrev pub IsTextAnswer : List ℕ → Status → List ℕ → Type 0
-IsTextAnswer bytes status.Text output = IsBadLineAnswer bytes output
-IsTextAnswer bytes status.Limit output = IsPassedAnswer bytes output ⊎ IsAnswerOfFile bytes status.Limit output
-IsTextAnswer bytes status.Ok output = IsAnswerOfFile bytes status.Ok output
-IsTextAnswer bytes status.Names output = IsAnswerOfFile bytes status.Names output
-IsTextAnswer bytes status.Cyclic output = IsAnswerOfFile bytes status.Cyclic output
-IsTextAnswer bytes other output = ⊥
+abbrev pub IsTextAnswer : Command → List ℕ → Status → List ℕ → Type 0
+IsTextAnswer command bytes status.Text output = IsBadLineAnswer bytes output
+IsTextAnswer command bytes status.Limit output = IsPassedAnswer bytes output ⊎ IsAnswerOfFile command bytes status.Limit output
+IsTextAnswer command bytes status.Ok output = IsAnswerOfFile command bytes status.Ok output
+IsTextAnswer command bytes status.Names output = IsAnswerOfFile command bytes status.Names output
+IsTextAnswer command bytes status.Cyclic output = IsAnswerOfFile command bytes status.Cyclic output
+IsTextAnswer command bytes status.Equal output = IsAnswerOfFile command bytes status.Equal output
+IsTextAnswer command bytes other output = ⊥
 
 -- ---- what is printed for words and a source
 
@@ -100,11 +56,11 @@ pub record Input : Type 0 where
   pub faults_after : ℕ
 
 -- all was read, within the limit, and this is the answer to it
-pub record IsAnswerToAll (input : Input) (s : Status) (output : List ℕ) : Type 0 where
+pub record IsAnswerToAll (command : Command) (input : Input) (s : Status) (output : List ℕ) : Type 0 where
   pub bytes : List ℕ
   pub all : IsAllOf input.left input.left_after bytes
   pub within : length bytes ≤ 1048576
-  pub answer : IsTextAnswer bytes s output
+  pub answer : IsTextAnswer command bytes s output
 
 -- more was there than the limit
 pub record IsLongAnswer (input : Input) (output : List ℕ) : Type 0 where
@@ -122,20 +78,21 @@ pub record IsUsageAnswer (input : Input) (output : List ℕ) : Type 0 where
   pub quiet : input.faults_after ≡ input.faults
   pub output_is : output ≡ refusal_text refusal.Usage
 
--- the answers to `synth`
-abbrev pub IsSynthAnswer : Input → Status → List ℕ → Type 0
-IsSynthAnswer input status.ReadFault output = IsFaultAnswer input output
-IsSynthAnswer input status.Limit output = IsLongAnswer input output ⊎ IsAnswerToAll input status.Limit output
-IsSynthAnswer input status.Ok output = IsAnswerToAll input status.Ok output
-IsSynthAnswer input status.Text output = IsAnswerToAll input status.Text output
-IsSynthAnswer input status.Names output = IsAnswerToAll input status.Names output
-IsSynthAnswer input status.Cyclic output = IsAnswerToAll input status.Cyclic output
-IsSynthAnswer input other output = ⊥
+-- the answers to a command that reads a graph text
+abbrev pub IsReadingAnswer : Command → Input → Status → List ℕ → Type 0
+IsReadingAnswer command input status.ReadFault output = IsFaultAnswer input output
+IsReadingAnswer command input status.Limit output = IsLongAnswer input output ⊎ IsAnswerToAll command input status.Limit output
+IsReadingAnswer command input status.Ok output = IsAnswerToAll command input status.Ok output
+IsReadingAnswer command input status.Text output = IsAnswerToAll command input status.Text output
+IsReadingAnswer command input status.Names output = IsAnswerToAll command input status.Names output
+IsReadingAnswer command input status.Cyclic output = IsAnswerToAll command input status.Cyclic output
+IsReadingAnswer command input status.Equal output = IsAnswerToAll command input status.Equal output
+IsReadingAnswer command input other output = ⊥
 
 abbrev pub IsCommandAnswer : Option Command → Input → Status → List ℕ → Type 0
 IsCommandAnswer None input status.Usage output = IsUsageAnswer input output
 IsCommandAnswer None input other output = ⊥
-IsCommandAnswer (Some command.Synth) input s output = IsSynthAnswer input s output
+IsCommandAnswer (Some command) input s output = IsReadingAnswer command input s output
 
 -- what the words and the input allow, by the status
 abbrev pub IsAllowed : List (List ℕ) → Input → Status → List ℕ → Type 0

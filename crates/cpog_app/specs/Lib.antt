@@ -1,9 +1,11 @@
 pub mod Words
 pub mod Refusal
+pub mod Denoting
 pub mod Scenarios
 pub mod Conditions
 pub mod Synthesis
 pub mod Faults
 pub mod Printed
+pub mod Answers
 pub mod Allowed
 pub mod Laws

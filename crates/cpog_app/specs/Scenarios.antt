@@ -1,10 +1,9 @@
--- The scenario that an expression denotes: the vertices and arcs of its graph.
+-- The scenario that is printed of an order: its arcs are the covering pairs.
 use Rattle.std.specs.Prelude.{ℕ, zero, suc, Bool, if◌then◌else◌, List, [], ◌∷◌}
 use Rattle.std.specs.FinSet as set
 use Rattle.cpog_defs.specs.declared.types.OpId.{OpId}
 use Rattle.cpog_defs.specs.Orders.{Set, Order, each_below, arc_of, covering_pairs}
 use Rattle.cpog_defs.specs.Scenarios.{Scenario}
-use Rattle.pg_algebra.specs.Graphs.{Graph}
 
 -- the set of the numbers below n that pass
 abbrev pub set_where : (ℕ → Bool) → ℕ → Set
@@ -18,10 +17,6 @@ arcs_from p n u = each_below (λ v. if p u v then arc_of u v ∷ [] else []) n
 -- the pairs of numbers below n that pass, by the first and then the second
 abbrev pub arcs_where : (ℕ → ℕ → Bool) → ℕ → List (OpId × OpId)
 arcs_where p n = each_below (arcs_from p n) n
-
--- the scenario of a graph
-abbrev pub scenario_of : ℕ → Graph → Scenario
-scenario_of count graph = record { count = count; ops = set_where graph.vertex count; arcs = arcs_where graph.arc count }
 
 -- a scenario whose arcs are the covering pairs of its order
 abbrev pub covering_scenario : Order → Scenario

@@ -5,11 +5,15 @@
 
 mod answer;
 mod conditions;
+mod denoting;
 mod fault;
 mod laws;
+mod naming;
 mod refusal;
+mod refusing;
 mod run;
 mod scenarios;
+mod synth;
 mod synthesis;
 mod words;
 

@@ -1,5 +1,6 @@
 ghost use Rattle.std.specs.Prelude.{◌≡◌, IfOk};
-ghost use Rattle.cpog_app.specs.Refusal.{counted_word, refusal_text};
+ghost use Rattle.std.specs.String.{string_bytes};
+ghost use Rattle.cpog_app.specs.Refusal.{counted_word, names_text, refusal_text};
 
 use cpog_base::{Counted, Memory, Name};
 use std::alloc::Global;
@@ -13,10 +14,20 @@ pub enum Refusal {
     ReadFault,
     /// This line, counted from 1, is the first that may not stand in its place.
     Text(u32),
+    /// On this line a name is defined or bound again.
+    Duplicate { line: u32, name: Name },
+    /// On this line a graph is named that no earlier line defines.
+    UnknownGraph { line: u32, name: Name },
+    /// On this line a parameter is named that no earlier line defines.
+    UnknownParam { line: u32, name: Name },
+    /// The scenario on this line, the first such, leaves this parameter open, the least such.
+    Unbound { line: u32, name: Name },
     /// The text has no scenario.
     NoScenario,
     /// In this scenario, the first such, this operation is the least one before itself.
     Cyclic { scenario: Name, operation: Name },
+    /// The first scenario is equal to the second: the least one that is equal to an earlier one, and the first such.
+    Equal { later: Name, earlier: Name },
     /// There are more of something than this number.
     Limit { what: Counted, number: u32 },
 }
@@ -37,6 +48,15 @@ fn word_of(what: Counted) -> &'static str
     }
 }
 
+/// The line that says what is wrong with a name.
+fn names_line(alloc: Global, line: u32, what: &str, name: &Name) -> Result<String, Memory>
+    ensures { IfOk result (λ text. string_bytes text ≡ names_text line what.now name.now) }
+{
+    let name = name.as_str();
+    let text = format!(in alloc; "cpog: names: line {line}: {what} {name}\n")?;
+    Ok(text)
+}
+
 /// The line that says why, with its line feed.
 ///
 /// # Errors
@@ -51,6 +71,12 @@ pub fn refusal_line(alloc: Global, refusal: &Refusal) -> Result<Vec<u8>, Memory>
         )?,
         Refusal::ReadFault => format!(in alloc; "cpog: read fault\n")?,
         Refusal::Text(line) => format!(in alloc; "cpog: text: line {line}\n")?,
+        Refusal::Duplicate { line, name } => names_line(alloc, *line, "duplicate", name)?,
+        Refusal::UnknownGraph { line, name } => names_line(alloc, *line, "unknown graph", name)?,
+        Refusal::UnknownParam { line, name } => {
+            names_line(alloc, *line, "unknown parameter", name)?
+        }
+        Refusal::Unbound { line, name } => names_line(alloc, *line, "unbound parameter", name)?,
         Refusal::NoScenario => format!(in alloc; "cpog: names: no scenario\n")?,
         Refusal::Cyclic {
             scenario,
@@ -59,6 +85,11 @@ pub fn refusal_line(alloc: Global, refusal: &Refusal) -> Result<Vec<u8>, Memory>
             let scenario = scenario.as_str();
             let operation = operation.as_str();
             format!(in alloc; "cpog: cyclic: scenario {scenario}: operation {operation}\n")?
+        }
+        Refusal::Equal { later, earlier } => {
+            let later = later.as_str();
+            let earlier = earlier.as_str();
+            format!(in alloc; "cpog: equal: scenario {later}: scenario {earlier}\n")?
         }
         Refusal::Limit { what, number } => {
             let word = word_of(*what);

@@ -7,6 +7,8 @@ ghost use Rattle.cpog_app.specs.Words.{command_of};
 pub enum Command {
     /// Print the report of the graph text that is read.
     Synth,
+    /// Print the normal forms of the graph text that is read.
+    Normal,
 }
 
 /// The command that the words name, without the program's name. There is none where they are outside the usage line.
@@ -15,6 +17,7 @@ pub fn read_words(words: &[String]) -> Option<Command>
 {
     match words {
         [word] if word.as_str() == "synth" => Some(Command::Synth),
+        [word] if word.as_str() == "normal" => Some(Command::Normal),
         _ => None,
     }
 }

@@ -1,4 +1,4 @@
-//! Covering pairs, free pairs, and scenarios with an operation before itself.
+//! Covering pairs, free pairs, scenarios with an operation before itself, and equal scenarios.
 
 use crate::running::run;
 use cpog_base::Status;
@@ -109,6 +109,43 @@ fn arcs_of_scenarios(rt: HostRuntime) -> Result<(), Fail> {
             b"scenario A = a + b + c + d\nscenario B = d -> c -> b -> d + a -> d\n",
             Status::Cyclic,
             b"cpog: cyclic: scenario B: operation b\n",
+        ),
+    ];
+    for (input, status, want) in table {
+        let ending = run(rt.alloc(), &["synth"], input)?;
+        assert_eq!(rt; ending.status, status);
+        assert_eq!(rt; ending.taken.as_slice(), want);
+    }
+    Ok(())
+}
+
+#[test]
+fn equal_scenarios(rt: HostRuntime) -> Result<(), Fail> {
+    let table: [(&[u8], Status, &[u8]); 5] = [
+        (
+            b"scenario A = a -> b -> c\nscenario B = a -> b + b -> c + a -> c\n",
+            Status::Equal,
+            b"cpog: equal: scenario B: scenario A\n",
+        ),
+        (
+            b"scenario A = empty\nscenario B = empty\n",
+            Status::Equal,
+            b"cpog: equal: scenario B: scenario A\n",
+        ),
+        (
+            b"scenario A = a\nscenario B = b\nscenario C = b\nscenario D = a\n",
+            Status::Equal,
+            b"cpog: equal: scenario C: scenario B\n",
+        ),
+        (
+            b"scenario A = a\nscenario B = b\nscenario C = a\n",
+            Status::Equal,
+            b"cpog: equal: scenario C: scenario A\n",
+        ),
+        (
+            b"scenario A = a\nscenario B = a\nscenario C = b -> b\n",
+            Status::Cyclic,
+            b"cpog: cyclic: scenario C: operation b\n",
         ),
     ];
     for (input, status, want) in table {

@@ -6,7 +6,7 @@ use std::test::Fail;
 
 #[test]
 fn the_first_bad_line_is_named(rt: HostRuntime) -> Result<(), Fail> {
-    let table: [(&[u8], &[u8]); 9] = [
+    let table: [(&[u8], &[u8]); 11] = [
         (
             b"# a comment\nscenario B = b\nscenario A = a ->\n",
             b"cpog: text: line 3\n",
@@ -26,7 +26,12 @@ fn the_first_bad_line_is_named(rt: HostRuntime) -> Result<(), Fail> {
             b"scenario A = a\nscenario B = b\r\r\n",
             b"cpog: text: line 2\n",
         ),
-        (b"scenario A = (a)\n", b"cpog: text: line 1\n"),
+        (b"scenario A = (a\n", b"cpog: text: line 1\n"),
+        (b"graph g = @ + a\n", b"cpog: text: line 1\n"),
+        (
+            b"params x\nscenario A = [x] a with x = 2\n",
+            b"cpog: text: line 2\n",
+        ),
         (
             b"scenario A = a\n\nscenario B = b +",
             b"cpog: text: line 3\n",

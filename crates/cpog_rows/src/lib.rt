@@ -10,7 +10,11 @@ mod bad_lines;
 #[cfg(test)]
 mod failing;
 #[cfg(test)]
+mod forms;
+#[cfg(test)]
 mod limits;
+#[cfg(test)]
+mod names;
 #[cfg(test)]
 mod one_bit;
 #[cfg(test)]

@@ -15,11 +15,20 @@ fn wide_scenario(alloc: Global, operations: u32) -> Result<String, Fail> {
     Ok(text)
 }
 
-/// So many scenarios of one operation.
+/// So many scenarios of one operation each, any two different.
 fn many_scenarios(alloc: Global, scenarios: u32) -> Result<String, Fail> {
     let mut text = String::new(alloc);
     for s in 0..scenarios {
-        write!(text, "scenario s{s} = a\n")?;
+        write!(text, "scenario s{s} = v{s}\n")?;
+    }
+    Ok(text)
+}
+
+/// So many graphs.
+fn many_graphs(alloc: Global, graphs: u32) -> Result<String, Fail> {
+    let mut text = String::new(alloc);
+    for g in 0..graphs {
+        write!(text, "graph g{g} = a\n")?;
     }
     Ok(text)
 }
@@ -27,7 +36,22 @@ fn many_scenarios(alloc: Global, scenarios: u32) -> Result<String, Fail> {
 #[test]
 fn counts_and_their_limits(rt: HostRuntime) -> Result<(), Fail> {
     let alloc = rt.alloc();
-    let table: [(String, Status, &[u8]); 5] = [
+    let table: [(String, Status, &[u8]); 8] = [
+        (
+            String::from_str(alloc, "params a, b, c, d\nparams a, b, c\n")?,
+            Status::Limit,
+            b"cpog: limit: params 6\n",
+        ),
+        (
+            many_graphs(alloc, 257)?,
+            Status::Limit,
+            b"cpog: limit: graphs 256\n",
+        ),
+        (
+            many_graphs(alloc, 256)?,
+            Status::Names,
+            b"cpog: names: no scenario\n",
+        ),
         (
             wide_scenario(alloc, 64)?,
             Status::Limit,

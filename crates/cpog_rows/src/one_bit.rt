@@ -127,16 +127,42 @@ module cpog(x0, go, a_a, a_b, r_a, r_b, done, idle);
 endmodule
 ";
 
+const NO_OPERATION: &[u8] = b"cpog report 1
+bits 1
+budget 2000000
+operations
+scenario A 0
+has
+arcs
+gates 0
+minimum 0
+evidence zero
+open none
+netlist
+module cpog(x0, go, done, idle);
+  input x0, go;
+  output done, idle;
+  assign done = go;
+  assign idle = ~go;
+endmodule
+";
+
 #[test]
 fn reports_of_one_bit(rt: HostRuntime) -> Result<(), Fail> {
-    let table: [(&[u8], &[u8]); 6] = [
+    let table: [(&[u8], &[u8]); 9] = [
         (b"scenario A = a\n", ONE_OPERATION),
         (b"scenario A = a", ONE_OPERATION),
         (
             b"# one\r\n\n \t \nscenario A=a# and another -> [(\r\n",
             ONE_OPERATION,
         ),
+        (b"scenario A = (a)\n", ONE_OPERATION),
+        (b"scenario A = empty\n", NO_OPERATION),
         (b"scenario A = a -> b\nscenario B = a -> c\n", TWO_BRANCHES),
+        (
+            b"params x\ngraph g = a -> ([x] b + [!x] c)\nscenario A = @g with x = 1\nscenario B = @g with x = 0\n",
+            TWO_BRANCHES,
+        ),
         (
             b"scenario A = a -> b\nscenario B = a + b\n",
             FIRST_ARC_ALONE,

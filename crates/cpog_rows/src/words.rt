@@ -9,13 +9,15 @@ const USAGE: &[u8] =
 
 #[test]
 fn other_words_print_the_usage_line(rt: HostRuntime) -> Result<(), Fail> {
-    let table: [&[&str]; 6] = [
+    let table: [&[&str]; 8] = [
         &[],
         &["help"],
         &["Synth"],
         &["synth", "x"],
         &["synth", "--bits", "9"],
         &["synth", ""],
+        &["normal", "x"],
+        &["Normal"],
     ];
     for words in table {
         let ending = run(rt.alloc(), words, b"scenario A = a\n")?;

@@ -1,6 +1,6 @@
 use Rattle.std.proofs.Common.{◌≡◌, ◌+◌, ◌∷◌, [], ◌++◌, take, sym, ap, ◌∙◌}
 use Rattle.std.proofs.lemmas.List.{take_more}
-use Rattle.cpog_app.proofs.ReportLemmas.{orders_push, first_cyclic}
+use Rattle.cpog_app.proofs.ReportLemmas.{orders_push, first_cyclic, told_below}
 use Rattle.cpog_app.proofs.synthesis.orders_of.Goals as goal
 
 pub loop-s-preserved : goal.loop-s-preserved
@@ -12,3 +12,6 @@ loop-s-preserved c =
 
 pub returns-in-Err-Cyclic-clause-err : goal.returns-in-Err-Cyclic-clause-err
 returns-in-Err-Cyclic-clause-err c = rw c.in-Err-Cyclic.v-is (first_cyclic c.args.scenarios.now c.loop-s.orders.items c.loop-s.s c.in-Err-Cyclic.v.0 c.index-scenarios-s.result c.loop-s-test.true c.index-scenarios-s.is c.loop-s.invariant (rw c.in-Err-Cyclic.field-0-is at c.in-Err-Cyclic.ensures.err))
+
+pub returns-in-Err-Cyclic-clause-known : goal.returns-in-Err-Cyclic-clause-known
+returns-in-Err-Cyclic-clause-known c = rw c.in-Err-Cyclic.v-is (told_below c.args.scenarios.now c.loop-s.s c.in-Err-Cyclic.v.0 c.index-scenarios-s.result c.loop-s-test.true c.index-scenarios-s.is c.count-count.ensures.scenario (rw c.in-Err-Cyclic.field-0-is at c.in-Err-Cyclic.ensures.err))

@@ -1,13 +1,9 @@
 use Rattle.std.proofs.Common.{◌≡◌, length, subst, sym, ap, ◌∙◌, arith}
-use Rattle.plain_text.specs.Text.{IsFile}
-use Rattle.cpog_app.proofs.ReportLemmas.{orders_each, orders_alike, same_count, report_is_lawful, report_is_synthesis}
+use Rattle.pg_text.specs.Text.{IsFile}
+use Rattle.netlist_verilog.specs.Module.{AreNames}
+use Rattle.cpog_app.proofs.FileNames.{operations_are_names}
+use Rattle.cpog_app.proofs.ReportLemmas.{orders_alike, same_count, report_is_lawful, report_is_synthesis}
 use Rattle.cpog_app.proofs.synthesis.report_of.Goals as goal
-
-pub one_bit_encoding-requires-clause-some : goal.one_bit_encoding-requires-clause-some
-one_bit_encoding-requires-clause-some c = omega (arith, orders_each c.args.file c.args.orders.now c.requires.orders c.requires.some, c.requires.some)
-
-pub one_bit_encoding-requires-clause-few : goal.one_bit_encoding-requires-clause-few
-one_bit_encoding-requires-clause-few c = omega (arith, orders_each c.args.file c.args.orders.now c.requires.orders c.requires.some, c.requires.few)
 
 pub one_bit_encoding-requires-clause-alike : goal.one_bit_encoding-requires-clause-alike
 one_bit_encoding-requires-clause-alike c = orders_alike c.args.file c.args.orders.now c.requires.orders c.requires.some
@@ -18,12 +14,17 @@ new-design-requires-clause-one_name_each c =
     ap length c.into_operations.ensures
     ∙ sym (conditions ∙ c.in_ok-encoding.ensures.encoding.encoding.graph.ops ∙ same_count c.args.file c.args.orders.now c.requires.orders c.requires.some)
 
+pub new-design-requires-clause-names : goal.new-design-requires-clause-names
+new-design-requires-clause-names c =
+    let file : IsFile c.args.file = subst IsFile c.file.view_is c.file.invariant in
+    subst AreNames (sym c.into_operations.ensures) (operations_are_names c.args.file file)
+
 pub new-requires : goal.new-requires
 new-requires c =
     let file : IsFile c.args.file = subst IsFile c.file.view_is c.file.invariant in
-    rw (c.in_ok-names.ensures, c.in_ok-scenarios.ensures, c.new-design.ensures, c.into_operations.ensures) (report_is_lawful c.args.file c.args.orders.now c.requires.orders c.requires.some file c.in_ok-encoding.encoding c.in_ok-encoding.ensures.encoding c.in_ok-encoding.ensures.codes c.in_ok-netlist.netlist c.in_ok-netlist.ensures.netlist)
+    rw (c.requires.names, c.in_ok-scenarios.ensures, c.new-design.ensures, c.into_operations.ensures) (report_is_lawful c.args.file c.args.orders.now c.requires.orders c.requires.some file (omega (arith, c.requires.few)) c.in_ok-encoding.encoding c.in_ok-encoding.ensures.encoding c.in_ok-encoding.ensures.codes c.in_ok-netlist.netlist c.in_ok-netlist.ensures.netlist)
 
 pub returns : goal.returns
 returns c =
     let file : IsFile c.args.file = subst IsFile c.file.view_is c.file.invariant in
-    rw (c.new.ensures, c.in_ok-names.ensures, c.in_ok-scenarios.ensures, c.new-design.ensures, c.into_operations.ensures) (report_is_synthesis c.args.file c.args.orders.now c.requires.orders c.requires.some file c.requires.few c.in_ok-encoding.encoding c.in_ok-encoding.ensures.encoding c.in_ok-encoding.ensures.codes c.in_ok-encoding.ensures.fits c.in_ok-netlist.netlist c.in_ok-netlist.ensures.netlist)
+    rw (c.new.ensures, c.requires.names, c.in_ok-scenarios.ensures, c.new-design.ensures, c.into_operations.ensures) (report_is_synthesis c.args.file c.args.orders.now c.requires.orders c.requires.some file c.requires.few c.requires.different c.in_ok-encoding.encoding c.in_ok-encoding.ensures.encoding c.in_ok-encoding.ensures.codes c.in_ok-encoding.ensures.fits c.in_ok-netlist.netlist c.in_ok-netlist.ensures.netlist)

@@ -1,5 +1,0 @@
-use Rattle.plain_text.proofs.TextLaws as laws
-use Rattle.plain_text.proofs.laws.one_file.Goals as goal
-
-pub returns : goal.returns
-returns c = laws.one_file

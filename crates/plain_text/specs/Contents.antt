@@ -1,8 +1,0 @@
--- What a file says.
-use Rattle.std.specs.Prelude.{ℕ, List}
-use Rattle.plain_text.specs.declared.statement.Numbered.{Numbered}
-
--- its statements with the numbers of their lines, and the names of its operations, by their numbers
-pub record Contents : Type 0 where
-  pub statements : List Numbered
-  pub operations : List (List ℕ)
