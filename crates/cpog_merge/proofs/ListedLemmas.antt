@@ -11,7 +11,8 @@ use Rattle.cpog_defs.specs.Graphs.{IsPlace}
 use Rattle.cpog_merge.specs.declared.class_list.Belongs.{Belongs}
 use Rattle.cpog_merge.specs.declared.class_list.Belongs.TheVariants.{Const}
 use Rattle.cpog_merge.specs.Table.{Table, IsTable, column_at}
-use Rattle.cpog_merge.specs.Classes.{IsClass, IsOpenColumn, Classes, belongs_at, BelongsTo, AreClassPlaces, AreClassesOf, IsClassList}
+use Rattle.gate_core.specs.Columns.{IsOpenColumn}
+use Rattle.cpog_merge.specs.Classes.{IsClass, Classes, belongs_at, BelongsTo, AreClassPlaces, AreClassesOf, IsClassList}
 use Rattle.cpog_merge.specs.Opens.{belonging, op_belongings, arc_belongings_from, arc_belongings}
 use Rattle.cpog_merge.proofs.TableLemmas.{length-blocks, get-blocks, single}
 use Rattle.cpog_merge.proofs.ClassLemmas.{column_size, have_classes, belongs_as_said}

@@ -20,7 +20,7 @@ use Rattle.cpog_defs.specs.Columns.{entry, column}
 use Rattle.order_reduce.proofs.PairCount.{few_covers}
 use Rattle.cpog_merge.specs.Table.{Table, column_at, count_of, AreColumnsOf}
 use Rattle.cpog_merge.specs.Classes.{ComesBefore, IsClass, Classes, AreClassesOf}
-use Rattle.cpog_merge.specs.Smaller.{smaller_set}
+use Rattle.gate_core.specs.Columns.{smaller_set}
 use Rattle.cpog_merge.proofs.ListLemmas.{contains_head, in_each_below, sum_of_some, sum_below, sum_by_bound, sum_by_swap}
 
 -- ---- all places

@@ -36,12 +36,6 @@ pub record IsOpen (t : Table) (p : Place) : Type 0 where
   pub some_one : IsTrue (list_any is_one (column_at t p))
   pub some_zero : IsTrue (list_any is_zero (column_at t p))
 
--- a column with so many entries, among them one that is 1 and one that is 0
-pub record IsOpenColumn (n : ℕ) (column : List Bit3) : Type 0 where
-  pub entries : length column ≡ n
-  pub some_one : IsTrue (list_any is_one column)
-  pub some_zero : IsTrue (list_any is_zero column)
-
 -- an open place that no earlier open one serves, and that serves each later open one that serves it
 pub record IsClass (t : Table) (p : Place) : Type 0 where
   pub is_open : IsOpen t p

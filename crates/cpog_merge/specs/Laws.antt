@@ -13,7 +13,7 @@ use Rattle.cpog_merge.specs.declared.class_list.Belongs.{Belongs}
 use Rattle.cpog_merge.specs.Table.{Table, count_of, AreColumnsOf, AgreesWithTable}
 use Rattle.cpog_merge.specs.Classes.{Classes, ServesAs, belongs_at, BelongsTo, AreClassesOf}
 use Rattle.cpog_merge.specs.ByClass.{signed_ref, ref_by, AgreeWithClasses, IsGraphByClass}
-use Rattle.cpog_merge.specs.Smaller.{smaller_set}
+use Rattle.gate_core.specs.Columns.{smaller_set}
 
 -- For all codes, gates and every conditional graph: the encoding fits the orders exactly where each condition has, on
 -- each scenario's code, the value of each defined entry of its column.

@@ -3,5 +3,4 @@ pub mod Laws
 pub mod Table
 pub mod Classes
 pub mod ByClass
-pub mod Smaller
 pub mod Opens

@@ -7,7 +7,8 @@ ghost use Rattle.cpog_defs.specs.Graphs.{IsPlace};
 ghost use Rattle.cpog_defs.specs.declared.types.Ref.{Ref};
 ghost use Rattle.cpog_defs.specs.Encodings.{Encoding};
 ghost use Rattle.cpog_merge.specs.Table.{column_at, AgreesWithTable};
-ghost use Rattle.cpog_merge.specs.Classes.{AreClassPlaces, AreClassesOf, IsOpenColumn};
+ghost use Rattle.cpog_merge.specs.Classes.{AreClassPlaces, AreClassesOf};
+ghost use Rattle.gate_core.specs.Columns.{IsOpenColumn};
 ghost use Rattle.cpog_merge.specs.ByClass.{AgreeWithClasses, IsGraphByClass};
 ghost use Rattle.cpog_merge.specs.Opens.{is_open as is_open_column, open_ops, open_arcs_from, open_places as places_open, chosen, op_belongings, arc_belongings_from, arc_belongings, HaveClasses};
 

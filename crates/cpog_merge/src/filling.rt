@@ -1,11 +1,11 @@
 //! A pair's column is filled from one set a scenario: the operations that the pair's second covers. These sets are
 //! made once for all pairs with that second, by whole-row steps, and each entry is then a few steps on words.
 
-ghost use Rattle.std.specs.Prelude.{◌≡◌, ◌<◌, ◌≤◌, ◌↔◌, ◌++◌, ℕ, length, map, slice_get, Some, IfOk, OnOk, IsSomeAnd};
+ghost use Rattle.std.specs.Prelude.{◌≡◌, ◌<◌, ◌≤◌, ◌↔◌, ◌++◌, ℕ, length, IfOk, OnOk};
 ghost use Rattle.std.specs.List.{All};
 ghost use Rattle.std.specs.FinSet as set;
 ghost use Rattle.cpog_defs.specs.declared.types.Place.TheVariants.{Op, Arc};
-ghost use Rattle.cpog_defs.specs.Orders.{IsOrderOf, is_covered, each_below};
+ghost use Rattle.cpog_defs.specs.Orders.{IsOrderOf, is_covered};
 ghost use Rattle.cpog_defs.specs.Columns.{op_entry, arc_entry, column};
 ghost use Rattle.cpog_defs.specs.Encodings.{Encoding, IsEncoding, Fits};
 ghost use Rattle.cpog_merge.specs.Table.{count_of, AreColumnsOf, AgreesWithTable};

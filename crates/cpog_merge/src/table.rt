@@ -1,6 +1,6 @@
 //! A column for each operation and for each ordered pair.
 
-ghost use Rattle.std.specs.Prelude.{◌≡◌, ◌≢◌, ◌<◌, ◌≤◌};
+ghost use Rattle.std.specs.Prelude.{◌≡◌, ◌≢◌, ◌<◌};
 ghost use Rattle.cpog_defs.specs.declared.types.Place.TheVariants.{Op, Arc};
 ghost use Rattle.cpog_merge.specs.Table.{IsTable, column_at};
 

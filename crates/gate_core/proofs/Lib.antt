@@ -1,2 +1,11 @@
 pub mod GateLemmas
 pub mod GraphLemmas
+pub mod WordLemmas
+pub mod ExtendLemmas
+pub mod MintermLemmas
+pub mod TakeLemmas
+pub mod ChooseLemmas
+pub mod BoundLemmas
+pub mod OnceLemmas
+pub mod PairLemmas
+pub mod SignalLemmas

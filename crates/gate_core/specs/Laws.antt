@@ -1,8 +1,10 @@
--- What is proved of the values of signals.
-use Rattle.std.specs.Prelude.{◌≡◌, ℕ, ◌+◌, ◌<◌, false, length, slice_index_or, slice_get, Some}
+-- What is proved of the values of signals, and of first encodings.
+use Rattle.std.specs.Prelude.{◌≡◌, ℕ, ◌+◌, ◌<◌, false, length, slice_index_or, slice_get, Some, List}
 use Rattle.cpog_defs.specs.declared.types.Gate.{Gate}
+use Rattle.cpog_defs.specs.declared.types.Bit3.{Bit3}
 use Rattle.cpog_defs.specs.Codes.{bit}
 use Rattle.cpog_defs.specs.Gates.{GateList, IsGateList, signal_count, signal_values, gate_value}
+use Rattle.gate_core.specs.First.{FirstEncoding, IsFirstEncoding}
 
 -- the value of an input's signal is the word's bit
 abbrev pub InputSignal : Type 0
@@ -18,3 +20,8 @@ GateSignal =
 -- there are as many values as signals
 abbrev pub SignalsAreCounted : Type 0
 SignalsAreCounted = (list : GateList) (word : ℕ) → length (signal_values list word) ≡ signal_count list
+
+-- columns of so many scenarios have one first encoding over so many bits
+abbrev pub FirstEncodingsAgree : Type 0
+FirstEncodingsAgree =
+    (n bits : ℕ) (columns : List (List Bit3)) (a b : FirstEncoding) → IsFirstEncoding n bits columns a → IsFirstEncoding n bits columns b → a ≡ b

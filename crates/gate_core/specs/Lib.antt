@@ -1,2 +1,6 @@
 pub mod Square
+pub mod Columns
+pub mod First
+pub mod Words
+pub mod Minterms
 pub mod Laws

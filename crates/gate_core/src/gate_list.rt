@@ -39,6 +39,18 @@ impl GateList {
         }
     }
 
+    /// These gates.
+    pub(crate) fn from_vec(inputs: u8, gates: Vec<Gate>) -> GateList
+        requires some { 1 ≤ inputs }
+        requires few { inputs ≤ 8 }
+        requires fit { inputs + length gates.items < 2 ^ 32 }
+        requires earlier { IsGateList (record { inputs = inputs; gates = gates.items }) }
+        ensures { result ≡ record { inputs = inputs; gates = gates.items } }
+    {
+        let gates = Items::from_vec(gates);
+        GateList { inputs, gates }
+    }
+
     /// A list of the same gates.
     ///
     /// # Errors

@@ -1,4 +1,4 @@
-ghost use Rattle.gate_core.specs.Laws.{InputSignal, GateSignal, SignalsAreCounted};
+ghost use Rattle.gate_core.specs.Laws.{InputSignal, GateSignal, SignalsAreCounted, FirstEncodingsAgree};
 
 /// The value of an input's signal is the word's bit.
 pub fn input_signal()
@@ -13,4 +13,9 @@ pub fn gate_signal()
 /// There are as many values as signals.
 pub fn signals_are_counted()
     ensures { SignalsAreCounted }
+{}
+
+/// Columns have one first encoding.
+pub fn first_encodings_agree()
+    ensures { FirstEncodingsAgree }
 {}

@@ -2,10 +2,12 @@
 //! encodings, which join both with a code for each scenario. It stands on the values of `cpog_base` and the
 //! definitions of `cpog_defs`. Each type keeps what makes it meaningful (a gate reads earlier signals, a graph is
 //! square, a condition speaks of a signal that is there), and `GateList::eval` is promised to give exactly the
-//! signals' values on a word.
+//! signals' values on a word. `first_encode` makes an encoding of columns without a search, and is promised to answer
+//! exactly the first encoding that is defined, with a bound on its gates.
 #![tactic(auto)]
 
 mod encoding;
+mod first;
 mod gate_list;
 mod graph;
 mod laws;
@@ -14,6 +16,7 @@ mod tests;
 
 pub use cpog_defs::types::{Gate, Ref};
 pub use encoding::Encoding;
+pub use first::{FirstEncoding, first_encode};
 pub use gate_list::GateList;
 pub use graph::ConditionalGraph;
-pub use laws::{gate_signal, input_signal, signals_are_counted};
+pub use laws::{first_encodings_agree, gate_signal, input_signal, signals_are_counted};

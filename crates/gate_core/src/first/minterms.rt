@@ -1,0 +1,109 @@
+//! Minterms: the gates that are 1 on the code of one scenario alone, and gates that join them.
+
+ghost use Rattle.std.specs.Prelude.{◌≡◌, ◌+◌, ◌-◌, ◌*◌, ◌<◌, ◌≤◌, ◌^◌, length, IfOk};
+ghost use Rattle.cpog_defs.specs.Codes.{bit};
+ghost use Rattle.cpog_defs.specs.Gates.{IsGateList};
+ghost use Rattle.gate_core.specs.First as first;
+ghost use Rattle.gate_core.specs.Minterms.{AllDiffer, CanJoinAll};
+
+use crate::first::signals::Signals;
+use cpog_base::Memory;
+use cpog_defs::types::Gate;
+use std::alloc::Global;
+
+/// Puts the minterms of some scenarios and the gates that join them to the list, and answers the number of the last.
+///
+/// # Errors
+///
+/// `Memory` where none is left.
+pub(crate) fn sum_of_minterms(
+    alloc: Global,
+    signals: &mut Signals,
+    scenarios: &[u8],
+) -> Result<u32, Memory>
+    requires gates { IsGateList signals.old }
+    requires inputs { 2 ≤ signals.old.inputs }
+    requires few_inputs { signals.old.inputs ≤ 8 }
+    requires some { 1 ≤ length scenarios.now }
+    requires few { length scenarios.now ≤ 64 }
+    requires differ { AllDiffer signals.old.inputs scenarios.now }
+    requires room { length signals.old.gates < 2 ^ 24 }
+    ensures { IfOk result (λ number. first.sum_of_minterms signals.old scenarios.now ≡ record { gates = signals.new; signal = number }) }
+{
+    let numbers = minterms(alloc, signals, scenarios)?;
+    joined(signals, numbers[0], &numbers[1..])
+}
+
+/// Puts the minterm of each scenario to the list, and answers the numbers of their signals.
+fn minterms(alloc: Global, signals: &mut Signals, scenarios: &[u8]) -> Result<Vec<u32>, Memory>
+    requires gates { IsGateList signals.old }
+    requires inputs { 2 ≤ signals.old.inputs }
+    requires few_inputs { signals.old.inputs ≤ 8 }
+    requires few { length scenarios.now ≤ 64 }
+    requires room { length signals.old.gates < 2 ^ 24 }
+    ensures { IfOk result (λ numbers. first.minterms signals.old scenarios.now ≡ record { gates = signals.new; signals = numbers.items }) }
+{
+    let mut numbers = Vec::with_capacity(alloc, scenarios.len())?;
+    for s in scenarios {
+        numbers.push(minterm(signals, *s)?)?;
+    }
+    Ok(numbers)
+}
+
+/// Puts the minterm of a scenario to the list, and answers the number of its signal.
+fn minterm(signals: &mut Signals, s: u8) -> Result<u32, Memory>
+    requires inputs { 2 ≤ signals.old.inputs }
+    requires room { length signals.old.gates < 2 ^ 30 }
+    ensures { IfOk result (λ number. first.minterm signals.old s (signals.old.inputs - 2) ≡ record { gates = signals.new; signal = number }) }
+{
+    let further = signals.inputs() - 2;
+    let mut number = signals.with_gate(Gate {
+        j: 0,
+        k: 1,
+        table: only_at(has_bit(s, 0), has_bit(s, 1)),
+    })?;
+    for i in 0..further {
+        number = signals.with_gate(Gate {
+            j: u32::from(i) + 2,
+            k: number,
+            table: only_at(has_bit(s, i + 2), true),
+        })?;
+    }
+    Ok(number)
+}
+
+/// Puts gates to the list that join a signal with others, and answers the number of the last.
+fn joined(signals: &mut Signals, one: u32, others: &[u32]) -> Result<u32, Memory>
+    requires joinable { CanJoinAll signals.old one others.now }
+    requires few { length others.now ≤ 64 }
+    requires few_inputs { signals.old.inputs ≤ 8 }
+    requires room { length signals.old.gates < 2 ^ 30 }
+    ensures { IfOk result (λ number. first.joined (record { gates = signals.old; signal = one }) others.now ≡ record { gates = signals.new; signal = number }) }
+{
+    let mut number = one;
+    for other in others {
+        number = signals.with_gate(Gate {
+            j: number.min(*other),
+            k: number.max(*other),
+            table: EITHER,
+        })?;
+    }
+    Ok(number)
+}
+
+/// The table of the gate that is 1 where either signal is.
+const EITHER: u8 = 0b1110;
+
+/// The table that is 1 only at these values.
+fn only_at(p: bool, q: bool) -> u8
+    ensures { result ≡ first.only_at p q }
+{
+    1 << (2 * u8::from(p) + u8::from(q))
+}
+
+fn has_bit(word: u8, i: u8) -> bool
+    requires { i < 8 }
+    ensures { result ≡ bit word i }
+{
+    word >> i & 1 == 1
+}
