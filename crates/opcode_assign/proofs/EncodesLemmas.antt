@@ -1,0 +1,52 @@
+-- Graphs by classes encode the scenarios.
+use Rattle.std.proofs.Common.{◌≡◌, ◌↔◌, ℕ, zero, suc, false, List, [], length, Some, slice_get, subst, sym, ◌∙◌, arith}
+use Rattle.std.proofs.lemmas.Option.{none-some, same_Some, slice_get-get_or}
+use Rattle.std.proofs.lemmas.List.{length-replicate}
+use Rattle.cpog_defs.specs.declared.types.Bit3.{Bit3}
+use Rattle.cpog_defs.specs.declared.types.Ref.{Ref}
+use Rattle.cpog_defs.specs.declared.types.Ref.TheVariants.{Const}
+use Rattle.cpog_defs.specs.Entries.{Agrees, entry_at}
+use Rattle.cpog_defs.specs.Codes.{bit, AreCodes, KeepGivenBits, open_patterns}
+use Rattle.cpog_defs.specs.Orders.{Order}
+use Rattle.cpog_defs.specs.Encodings.{Encoding, IsEncoding, Fits, Encodes}
+use Rattle.gate_core.specs.First.{FirstEncoding, ServesColumns}
+use Rattle.cpog_merge.specs.Table.{Table, AgreesWithTable}
+use Rattle.cpog_merge.specs.Classes.{Classes, class_column, AreClassesOf}
+use Rattle.cpog_merge.specs.ByClass.{class_ref, AgreeWithClasses, IsGraphByClass}
+use Rattle.cpog_merge.proofs.AgreeLemmas.{graph_by_class_lem}
+
+-- ---- codes with no given bit
+
+open_at : (n s : ℕ) (pattern : List Bit3) → slice_get (open_patterns n) s ≡ Some pattern → pattern ≡ []
+open_at zero s p e = absurd (none-some p e)
+open_at (suc n) zero p e = sym (same_Some [] p e)
+open_at (suc n) (suc s) p e = open_at n s p e
+
+-- any codes keep patterns that leave each bit open
+keeps_open : (codes : List ℕ) (n : ℕ) → length codes ≡ n → KeepGivenBits (open_patterns n) codes
+keeps_open codes n each = record {
+  one_each = length-replicate n [] ∙ sym each;
+  kept = λ s word i pattern at given. subst (λ p. Agrees (entry_at p i) (bit word i)) (sym (open_at n s pattern given)) tt;
+}
+
+-- ---- references of classes
+
+-- the references of the classes' columns agree with the classes
+agree_with_classes : (list : Classes) (e : FirstEncoding) → ServesColumns list.columns e → AgreeWithClasses e.gates e.codes list e.refs
+agree_with_classes list e serves c lt =
+    serves.agrees c (class_column list c) (class_ref e.refs c) (slice_get-get_or list.columns c [] lt) (slice_get-get_or e.refs c (Const false) (omega (arith, lt, serves.one_each)))
+
+-- codes and gates that serve the classes, and a graph whose conditions are those of the classes, encode the scenarios
+pub by_class_encodes : (count bits : ℕ) (orders : List Order) (t : Table) (list : Classes) (refs : List Ref) (e : Encoding)
+    → ((f : Encoding) → IsEncoding count f → Fits f orders ↔ AgreesWithTable f t) → t.scenarios ≡ length orders → t.count ≡ count → AreClassesOf t list
+    → e.gates.inputs ≡ bits → AreCodes bits (length orders) e.codes → IsEncoding count e
+    → ServesColumns list.columns (record { codes = e.codes; gates = e.gates; refs = refs }) → IsGraphByClass count list refs e.graph
+    → Encodes count orders (open_patterns (length orders)) bits e
+by_class_encodes count bits orders t list refs e fits scenarios same are inputs codes encoding serves graph = record {
+  bits_are = inputs;
+  codes = codes;
+  given = keeps_open e.codes (length orders) codes.one_each;
+  encoding = encoding;
+  fits = (fits e encoding).1 (graph_by_class_lem e t list refs are (codes.one_each ∙ sym scenarios) (agree_with_classes list (record { codes = e.codes; gates = e.gates; refs = refs }) serves)
+      (subst (λ n. IsGraphByClass n list refs e.graph) (sym same) graph));
+}

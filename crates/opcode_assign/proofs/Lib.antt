@@ -1,0 +1,5 @@
+pub mod GraphLemmas
+pub mod EncodesLemmas
+pub mod BitLemmas
+pub mod AssignmentLemmas
+pub mod TogetherLemmas

@@ -1,0 +1,4 @@
+pub mod Bits
+pub mod Assignments
+pub mod References
+pub mod Laws
