@@ -8,7 +8,7 @@ use Rattle.cpog_base.specs.declared.status.Status.TheVariants as status
 use Rattle.cpog_outside.specs.Told.{IsAllOf, IsLonger}
 use Rattle.pg_text.specs.declared.fault.FileFault.TheVariants as fault
 use Rattle.pg_text.specs.Lines.{graph_lines}
-use Rattle.pg_text.specs.Text.{IsGoodLine, IsFileFault}
+use Rattle.pg_text.specs.Text.{IsGoodLine}
 use Rattle.pg_text.proofs.TextLaws.{one_file, one_first_bad, one_fault, file_has_no_fault}
 use Rattle.cpog_app.specs.declared.refusal.Refusal.TheVariants as refusal
 use Rattle.cpog_app.specs.declared.words.Command.{Command}

@@ -1,7 +1,6 @@
 -- Arcs that are gathered by their ends.
-use Rattle.std.proofs.Common.{◌≡◌, ◌≢◌, ℕ, zero, suc, ◌+◌, ◌<◌, ◌≤◌, ◌==◌, ◌&&◌, ◌||◌, Bool, true, false, IsTrue, List, [], ◌∷◌, ◌++◌, if◌then◌else◌, slice_index_or, replicate, refl, sym, ap, ap₂, ◌∙◌, arith, inl, inr, append_assoc, append-nil, add-one}
-use Rattle.std.proofs.lemmas.Bool.{cases_eq, cases_lt, both_ways, or_cases, or_left, or_right, and_parts, eqb-true, eq-eqb, ne_eqb, false_from_ne_true}
-use Rattle.std.proofs.Math.Bool.{or-false}
+use Rattle.std.proofs.Common.{◌≡◌, ◌≢◌, ℕ, zero, suc, ◌+◌, ◌<◌, ◌≤◌, ◌==◌, ◌&&◌, ◌||◌, Bool, true, false, IsTrue, List, [], ◌∷◌, ◌++◌, if◌then◌else◌, refl, sym, ap, ap₂, ◌∙◌, arith, inl, inr, append_assoc, append-nil, add-one}
+use Rattle.std.proofs.lemmas.Bool.{cases_eq, cases_lt, both_ways, or_cases, and_parts, eqb-true, eq-eqb, ne_eqb, false_from_ne_true}
 use Rattle.std.specs.Cmp.{nat_cmp_total, unsigned_tied}
 use Rattle.std.proofs.lemmas.List.Folds.{list_any-append}
 use Rattle.std.specs.Ordering.{nat_cmp}

@@ -1,5 +1,5 @@
 -- The scenarios that the statements so far denote, and the forms that are left.
-use Rattle.std.proofs.Common.{◌≡◌, ℕ, zero, suc, ◌+◌, ◌<◌, ◌≤◌, Bool, List, [], ◌∷◌, ◌++◌, length, drop, get_or, Some, None, slice_get, refl, sym, ap, ◌∙◌, subst, arith, inl, inr, append_assoc, append-nil, length-append}
+use Rattle.std.proofs.Common.{◌≡◌, ℕ, zero, suc, ◌+◌, ◌<◌, ◌≤◌, Bool, List, [], ◌∷◌, ◌++◌, length, drop, get_or, Some, None, slice_get, refl, sym, ap, ◌∙◌, subst, arith, inl, inr, append_assoc, append-nil}
 use Rattle.std.specs.Prelude.{Option, IsSomeAnd}
 use Rattle.std.proofs.lemmas.List.{drop_all}
 use Rattle.std.proofs.lemmas.Bool.{cases_lt}
@@ -17,7 +17,7 @@ use Rattle.pg_normal.specs.declared.instances.Partial.{Partial}
 use Rattle.pg_normal.specs.declared.listing.Normal.{Normal}
 use Rattle.pg_normal.specs.Forms.{Form}
 use Rattle.pg_normal.specs.Instances.{IsInstance, IsUnbound}
-use Rattle.pg_normal.specs.Normals.{Before, none_before, with_statement, params_in, binds, binds_one, IsNormal, StatementNormals, BeginsWithNormal, AreNormals, AreNormalsOf}
+use Rattle.pg_normal.specs.Normals.{Before, none_before, with_statement, params_in, binds, binds_one, StatementNormals, BeginsWithNormal, AreNormals, AreNormalsOf}
 use Rattle.pg_normal.proofs.NamingLemmas.{next}
 use Rattle.cpog_app.specs.Denoting.{Stated, stated, stated_from, stated_in, IsDenoted, AreDenoted, AreScenariosOf, LeavesOpen, IsFirstUnbound}
 use Rattle.cpog_app.proofs.StatedLemmas.{line_at, count_stated}

@@ -1,8 +1,10 @@
 -- What is printed for a file is one answer: each cause has one output, and it stands only where no cause before it does.
-use Rattle.std.proofs.Common.{◌≡◌, ◌⊎◌, ℕ, ◌<◌, ◌≤◌, ◌^◌, List, [], length, map, Some, None, slice_get, refl, sym, ap, ap₂, ◌∙◌, subst, arith, inl, inr}
+use Rattle.std.proofs.Common.{◌≡◌, ◌⊎◌, ℕ, ◌≤◌, ◌^◌, List, [], length, map, Some, None, slice_get, refl, sym, ap, ap₂, ◌∙◌, subst, arith, inl, inr}
+use Rattle.std.specs.Prelude.{Option}
 use Rattle.std.proofs.lemmas.Bool.{cases_lt}
 use Rattle.std.proofs.lemmas.List.{length-map}
 use Rattle.std.proofs.lemmas.Option.{none-some, same_Some}
+use Rattle.cpog_base.specs.declared.limits.Counted.TheVariants as counted
 use Rattle.cpog_base.specs.declared.status.Status.{Status}
 use Rattle.cpog_base.specs.declared.status.Status.TheVariants as status
 use Rattle.cpog_defs.specs.Orders.{Order}
@@ -18,11 +20,13 @@ use Rattle.report_text.specs.Rows.{report_lines}
 use Rattle.cpog_app.specs.declared.refusal.Refusal.TheVariants as refusal
 use Rattle.cpog_app.specs.declared.words.Command.{Command}
 use Rattle.cpog_app.specs.declared.words.Command.TheVariants as command
+use Rattle.cpog_app.specs.Bits.{IsBits}
 use Rattle.cpog_app.specs.Refusal.{refusal_text, IsNamesLine}
 use Rattle.cpog_app.specs.Denoting.{Stated, stated_in, scenario_names_of, AreScenariosOf, AreOrdersIn, LeavesOpen, IsFirstUnbound}
 use Rattle.cpog_app.specs.Synthesis.{AreDifferent}
 use Rattle.cpog_app.specs.Answers.{IsNameFaultAnswer, IsFormsAnswer, IsNormalAnswer, IsEmptyAnswer, IsUnboundAnswer, IsCyclicAnswer, IsEqualAnswer, IsManyAnswer, IsReportAnswer, IsSynthAnswer, IsFileAnswer}
 use Rattle.cpog_app.proofs.Causes.{Cause, Agree, IsOne, AreApart, at_status, either, one_at, one_either}
+use Rattle.cpog_app.proofs.BitLemmas.{one_bits}
 use Rattle.cpog_app.proofs.DenotingLemmas.{none_open, length-denoted}
 use Rattle.cpog_app.proofs.OrderAgreement.{one_orders, cyclic_again}
 use Rattle.cpog_app.proofs.ReportLemmas.{length-orders}
@@ -86,7 +90,7 @@ first_pair orders l m e g a b = elim (cases_lt l m) [
   ]
 ]
 
-module _ (f : Contents) where
+module _ (said : Option ℕ) (f : Contents) where
   -- ---- each cause has one output
 
   one_fault_answer : (x y : List ℕ) → IsNameFaultAnswer f x → IsNameFaultAnswer f y → x ≡ y
@@ -120,11 +124,14 @@ module _ (f : Contents) where
       let earlier : h.earlier_name ≡ k.earlier_name = same_Some h.earlier_name k.earlier_name (sym h.earlier_is ∙ ap (slice_get (scenario_names_of f)) same.1 ∙ k.earlier_is) in
       h.output_is ∙ ap₂ (λ a b. refusal_text (refusal.Equal a b)) later earlier ∙ sym k.output_is
 
-  one_many_answer : (x y : List ℕ) → IsManyAnswer f x → IsManyAnswer f y → x ≡ y
-  one_many_answer x y h k = h.output_is ∙ sym k.output_is
+  one_many_answer : (x y : List ℕ) → IsManyAnswer said f x → IsManyAnswer said f y → x ≡ y
+  one_many_answer x y h k =
+      let orders : k.orders ≡ h.orders = one_orders f k.orders h.orders k.of_file h.of_file in
+      let bits : h.bits ≡ k.bits = one_bits said (length h.orders) h.bits k.bits h.bits_are (subst (λ os. IsBits said (length os) k.bits) orders k.bits_are) in
+      h.output_is ∙ ap (λ n. refusal_text (refusal.Limit counted.Bits n)) bits ∙ sym k.output_is
 
-  one_report_answer : (x y : List ℕ) → IsReportAnswer f x → IsReportAnswer f y → x ≡ y
-  one_report_answer x y h k = h.output_is ∙ ap (λ r. text_of (report_lines r)) (one_report f h.report k.report h.synthesis k.synthesis) ∙ sym k.output_is
+  one_report_answer : (x y : List ℕ) → IsReportAnswer said f x → IsReportAnswer said f y → x ≡ y
+  one_report_answer x y h k = h.output_is ∙ ap (λ r. text_of (report_lines r)) (one_report said f h.report k.report h.synthesis k.synthesis) ∙ sym k.output_is
 
   -- ---- the causes in their order
 
@@ -147,10 +154,10 @@ module _ (f : Contents) where
   equal = at_status status.Equal (IsEqualAnswer f)
 
   abbrev many : Cause
-  many = at_status status.Limit (IsManyAnswer f)
+  many = at_status status.Limit (IsManyAnswer said f)
 
   abbrev report : Cause
-  report = at_status status.Ok (IsReportAnswer f)
+  report = at_status status.Ok (IsReportAnswer said f)
 
   abbrev from_many : Cause
   from_many = either many report
@@ -216,7 +223,8 @@ module _ (f : Contents) where
   many_or_report : AreApart many report
   many_or_report s t x y h k =
       let same : length h.1.orders ≡ length k.1.synthesis.orders = ap length (one_orders f h.1.orders k.1.synthesis.orders h.1.of_file k.1.synthesis.of_file) in
-      let few : length k.1.synthesis.orders ≤ 2 ^ 1 = subst (λ bits. length k.1.synthesis.orders ≤ 2 ^ bits) k.1.synthesis.bits k.1.synthesis.enough_bits in
+      let bits : h.1.bits ≡ k.1.report.bits = one_bits said (length h.1.orders) h.1.bits k.1.report.bits h.1.bits_are (subst (λ n. IsBits said n k.1.report.bits) (sym same) k.1.synthesis.bits) in
+      let few : length k.1.synthesis.orders ≤ 2 ^ h.1.bits = subst (λ n. length k.1.synthesis.orders ≤ 2 ^ n) (sym bits) k.1.synthesis.enough_bits in
       absurd (omega (arith, same, few, h.1.many))
 
   equal_or_more : AreApart equal from_many
@@ -243,7 +251,7 @@ module _ (f : Contents) where
       (one_either unbound from_cyclic (one_at status.Names (IsUnboundAnswer f) one_unbound_answer)
       (one_either cyclic from_equal (one_at status.Cyclic (IsCyclicAnswer f) one_cyclic_answer)
       (one_either equal from_many (one_at status.Equal (IsEqualAnswer f) one_equal_answer)
-      (one_either many report (one_at status.Limit (IsManyAnswer f) one_many_answer) (one_at status.Ok (IsReportAnswer f) one_report_answer) many_or_report)
+      (one_either many report (one_at status.Limit (IsManyAnswer said f) one_many_answer) (one_at status.Ok (IsReportAnswer said f) one_report_answer) many_or_report)
       equal_or_more)
       cyclic_or_more)
       unbound_or_more)
@@ -258,7 +266,7 @@ module _ (f : Contents) where
   of_names x (inr (inl h)) = inr (inl (refl, h))
   of_names x (inr (inr h)) = inr (inr (inl (refl, h)))
 
-  of_synth : (s : Status) (x : List ℕ) → IsSynthAnswer f s x → either name_fault from_empty s x
+  of_synth : (s : Status) (x : List ℕ) → IsSynthAnswer said f s x → either name_fault from_empty s x
   of_synth status.Ok x h = inr (inr (inr (inr (inr (inr (refl, h))))))
   of_synth status.Names x h = of_names x h
   of_synth status.Cyclic x h = inr (inr (inr (inl (refl, h))))
@@ -271,6 +279,7 @@ module _ (f : Contents) where
   of_normal status.Names x h = inl (refl, h)
   of_normal other x h = absurd h
 
-  pub file_answers_agree : (c : Command) (s t : Status) (x y : List ℕ) → IsFileAnswer c f s x → IsFileAnswer c f t y → Agree s x t y
-  file_answers_agree command.Synth s t x y h k = one_synth s t x y (of_synth s x h) (of_synth t y k)
-  file_answers_agree command.Normal s t x y h k = one_normal s t x y (of_normal s x h) (of_normal t y k)
+-- the answers of a command to a file are one
+pub file_answers_agree : (f : Contents) (c : Command) (s t : Status) (x y : List ℕ) → IsFileAnswer c f s x → IsFileAnswer c f t y → Agree s x t y
+file_answers_agree f (command.Synth said) s t x y h k = one_synth said f s t x y (of_synth said f s x h) (of_synth said f t y k)
+file_answers_agree f command.Normal s t x y h k = one_normal None f s t x y (of_normal None f s x h) (of_normal None f t y k)

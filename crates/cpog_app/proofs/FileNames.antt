@@ -11,8 +11,8 @@ use Rattle.cpog_base.specs.Names.{has_text, with_text, AreDistinct}
 use Rattle.line_text.specs.Words.{is_free_name}
 use Rattle.netlist_verilog.specs.Module.{AreNames}
 use Rattle.pg_text.specs.Lines.{graph_lines}
-use Rattle.pg_text.specs.Grammar.{Side, condition, graph, Level, sum, row, Phrase, single, joined, named, group, bit, negated, empty, reference, under, tokens, names_after}
-use Rattle.pg_text.specs.Sentences.{Sentence, params_line, graph_line, scenario_line, left_tokens, with_tokens, IsLine, names_after_sentence, names_after_line, line_tree}
+use Rattle.pg_text.specs.Grammar.{Side, condition, graph, Level, Phrase, single, joined, named, group, bit, negated, empty, reference, under, tokens, names_after}
+use Rattle.pg_text.specs.Sentences.{Sentence, params_line, graph_line, scenario_line, left_tokens, with_tokens, IsLine, names_after_line}
 use Rattle.pg_text.specs.Contents.{Contents}
 use Rattle.pg_text.specs.Text.{AreSpelled, put_statement, statements_from, IsReadAs, IsFile}
 use Rattle.pg_text.specs.Text as text
@@ -21,7 +21,7 @@ use Rattle.pg_text.proofs.PhraseLaws.{parts_begin}
 use Rattle.pg_text.proofs.PlainPhrases.{HasNames}
 use Rattle.pg_text.proofs.Spelling.{spelled-names}
 use Rattle.cpog_app.specs.Denoting.{scenario_names_of}
-use Rattle.cpog_app.proofs.StatedLemmas.{names_in, names_from, names_are}
+use Rattle.cpog_app.proofs.StatedLemmas.{names_from, names_are}
 
 abbrev IsFree : List ℕ → Type 0
 IsFree w = is_free_name w ≡ true

@@ -4,7 +4,7 @@ pub mod OpenLemmas
 pub mod DenotingLemmas
 pub mod FileNames
 pub mod ArcLemmas
-pub mod ConditionLemmas
+pub mod BitLemmas
 pub mod ReportLemmas
 pub mod PrintedLemmas
 pub mod OrderAgreement

@@ -1,5 +1,5 @@
 -- The scenarios that a file denotes have one list of orders.
-use Rattle.std.proofs.Common.{◌≡◌, ◌↔◌, ℕ, zero, suc, ◌<◌, Bool, true, false, IsTrue, List, [], ◌∷◌, length, Some, slice_get, slice_index_or, refl, sym, ap, ap₂, ◌∙◌, subst}
+use Rattle.std.proofs.Common.{◌≡◌, ◌↔◌, ℕ, zero, suc, Bool, true, false, IsTrue, List, [], ◌∷◌, length, Some, slice_get, refl, sym, ap₂, ◌∙◌, subst}
 use Rattle.std.specs.Prelude.{IsSomeAnd}
 use Rattle.std.specs.FinSet as set
 use Rattle.std.specs.FinMap.{nat_cmp-IsAntisymmetric}
@@ -10,7 +10,7 @@ use Rattle.cpog_base.specs.Arcs.{has_arc}
 use Rattle.cpog_base.proofs.ArcLemmas.{has_from_contains, contains_from_has}
 use Rattle.cpog_defs.specs.Orders.{Order, is_before}
 use Rattle.cpog_defs.specs.Walks.{last}
-use Rattle.cpog_defs.specs.Scenarios.{Scenario, HasArc, IsBefore, IsLeastCyclic, IsOrderOfScenario, AreOrdersOf}
+use Rattle.cpog_defs.specs.Scenarios.{Scenario, IsBefore, IsLeastCyclic, IsOrderOfScenario, AreOrdersOf}
 use Rattle.cpog_defs.proofs.WalkLemmas.{replaced}
 use Rattle.pg_text.specs.Contents.{Contents}
 use Rattle.cpog_app.specs.Denoting.{Stated, stated_in, IsDenoted, AreDenoted, AreScenariosOf, AreOrdersIn}

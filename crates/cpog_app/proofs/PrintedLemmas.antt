@@ -1,5 +1,6 @@
 -- The controller that stands in a printed report.
 use Rattle.std.proofs.Common.{◌≡◌, ◌↔◌, ℕ, IsTrue, List, length, sym, ap, subst, ◌∙◌, arith}
+use Rattle.std.specs.Prelude.{Option}
 use Rattle.std.specs.List.{All}
 use Rattle.cpog_defs.specs.Orders.{IsOrderOf}
 use Rattle.cpog_defs.specs.Encodings.{IsEncoding}
@@ -19,8 +20,8 @@ use Rattle.cpog_app.specs.Answers.{IsReportAnswer}
 use Rattle.cpog_app.proofs.ReportLemmas.{orders_are}
 
 -- the report's netlist shows each run
-shows_each_run : (f : Contents) (r : ReportValue) (is : IsSynthesis f r) → ShowsEachRun is.orders r.encoding.codes (module_of r)
-shows_each_run f r is events m i at run inputs settled =
+shows_each_run : (said : Option ℕ) (f : Contents) (r : ReportValue) (is : IsSynthesis said f r) → ShowsEachRun is.orders r.encoding.codes (module_of r)
+shows_each_run said f r is events m i at run inputs settled =
     let count : length r.encoding.graph.ops ≡ length r.names = is.report.encoding.graph.ops in
     let names : length r.names ≡ length f.operations = ap length is.names in
     let orders : All (IsOrderOf (length r.encoding.graph.ops)) is.orders = subst (λ n. All (IsOrderOf n) is.orders) (sym (count ∙ names)) (orders_are f is.orders is.of_file) in
@@ -35,8 +36,8 @@ shows_each_run f r is events m i at run inputs settled =
     }
 
 -- the text of a file's report is what may be printed for it
-pub report_answers : (f : Contents) (r : ReportValue) (output : List ℕ) → IsSynthesis f r → output ≡ text_of (report_lines r) → IsReportAnswer f output
-report_answers f r output is e = record {
+pub report_answers : (said : Option ℕ) (f : Contents) (r : ReportValue) (output : List ℕ) → IsSynthesis said f r → output ≡ text_of (report_lines r) → IsReportAnswer said f output
+report_answers said f r output is e = record {
   report = r;
   synthesis = is;
   output_is = e;
@@ -45,6 +46,6 @@ report_answers f r output is e = record {
     is_module = module_lawful r is.report;
     stands = subst (λ text. EndsWithModule text (module_of r)) (sym e) (module_ends r is.report);
     names_are = is.names;
-    shows = shows_each_run f r is;
+    shows = shows_each_run said f r is;
   };
 }

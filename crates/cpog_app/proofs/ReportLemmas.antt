@@ -1,10 +1,10 @@
 -- The report of a file is lawful, and is its synthesis.
 use Rattle.std.proofs.Common.{◌≡◌, ◌≢◌, ℕ, zero, suc, ◌+◌, ◌-◌, ◌<◌, ◌≤◌, Bool, true, false, IsTrue, List, [], ◌∷◌, ◌++◌, length, map, take, IsSomeAnd, slice_index_or, slice_get, Some, if◌then◌else◌, refl, sym, ap, ◌∙◌, subst, arith, inl, inr, length-append}
+use Rattle.std.specs.Prelude.{Option, ◌^◌}
 use Rattle.std.specs.List.{All, AllPairs}
 use Rattle.std.proofs.lemmas.Bool.{cases_lt, both_ways, or_cases, and_parts}
-use Rattle.std.proofs.lemmas.Option.{none-some, same_Some, slice_get-get_or}
-use Rattle.std.proofs.lemmas.List.{get_or_append_left, get_or-append_right, length-map, length-replicate}
-use Rattle.std.proofs.lemmas.List.Elements.{All-from_recursion}
+use Rattle.std.proofs.lemmas.Option.{none-some, slice_get-get_or}
+use Rattle.std.proofs.lemmas.List.{get_or_append_left, get_or-append_right, length-map}
 use Rattle.cpog_defs.specs.declared.types.OpId.{OpId}
 use Rattle.cpog_defs.specs.Orders.{Order, is_before, is_covered, IsOrderOf, each_below, arc_of}
 use Rattle.cpog_defs.specs.Walks.{last, more}
@@ -13,18 +13,17 @@ use Rattle.cpog_base.specs.Arcs.{has_arc}
 use Rattle.cpog_base.proofs.ArcLemmas.{has_from_contains}
 use Rattle.cpog_merge.specs.Table.{count_of}
 use Rattle.cpog_merge.proofs.ScenarioLemmas.{fits_is_fitting_scenarios_lem}
-use Rattle.cpog_defs.specs.declared.types.Bit3.{Bit3}
-use Rattle.cpog_defs.specs.Codes.{bit, AreCodes, KeepGivenBits, open_patterns}
-use Rattle.cpog_defs.specs.Entries.{Agrees, entry_at}
-use Rattle.cpog_defs.specs.Encodings.{Encoding, IsEncoding, Fits}
+use Rattle.cpog_defs.specs.Codes.{open_patterns}
+use Rattle.cpog_defs.specs.Encodings.{Encoding, IsEncoding, Encodes}
 use Rattle.handshake_eqs.specs.Netlists.{Netlist, IsNetlistOf}
 use Rattle.pg_text.specs.Contents.{Contents}
 use Rattle.pg_text.specs.Text.{IsFile}
-use Rattle.report_text.specs.declared.bound.Bound.TheVariants.{Minimum}
-use Rattle.report_text.specs.Report.{IsArcBefore, IsReport, IsReported}
-use Rattle.cpog_app.specs.Conditions.{IsOneBitEncoding}
+use Rattle.report_text.specs.declared.bound.Bound.{Bound}
+use Rattle.report_text.specs.Report.{ReportValue, IsArcBefore, IsBound, IsReport, IsReported}
+use Rattle.opcode_assign.specs.Assignments.{IsFirstAssignment}
+use Rattle.cpog_app.specs.Bits.{IsBits}
 use Rattle.cpog_app.specs.Denoting.{Stated, stated_in, scenario_names_of, IsDenoted, AreDenoted, AreOrdersIn}
-use Rattle.cpog_app.specs.Synthesis.{IsFirstCyclic, AreDifferent, IsSynthesis}
+use Rattle.cpog_app.specs.Synthesis.{IsFirstCyclic, AreDifferent, IsBoundOf, IsSynthesis}
 use Rattle.cpog_app.specs.Scenarios.{arcs_from, arcs_where, covering_scenario}
 use Rattle.cpog_app.proofs.ArcLemmas.{from_u, begin_below, has_one, has_append}
 use Rattle.cpog_app.proofs.DenotingLemmas.{length-denoted}
@@ -119,20 +118,6 @@ reported n o is =
       ascending = where_ascend (is_covered o) o.count o.count;
     }
 
--- ---- codes with no given bit
-
-open_at : (n s : ℕ) (pattern : List Bit3) → slice_get (open_patterns n) s ≡ Some pattern → pattern ≡ []
-open_at zero s p e = absurd (none-some p e)
-open_at (suc n) zero p e = sym (same_Some [] p e)
-open_at (suc n) (suc s) p e = open_at n s p e
-
--- any codes keep patterns that leave each bit open
-keeps_open : (codes : List ℕ) (n : ℕ) → length codes ≡ n → KeepGivenBits (open_patterns n) codes
-keeps_open codes n each = record {
-  one_each = length-replicate n [] ∙ sym each;
-  kept = λ s word i pattern at given. subst (λ p. Agrees (entry_at p i) (bit word i)) (sym (open_at n s pattern given)) tt;
-}
-
 -- ---- orders of scenarios
 
 pub orders_push : (xs : List Scenario) (os : List Order) (x : Scenario) (o : Order) → AreOrdersOf xs os → IsOrderOfScenario x o → AreOrdersOf (xs ++ x ∷ []) (os ++ o ∷ [])
@@ -197,59 +182,57 @@ module _ (f : Contents) (orders : List Order) (z : AreOrdersIn f orders) (some :
   pub orders_alike : All (IsOrderOf (count_of orders)) orders
   orders_alike = subst (λ n. All (IsOrderOf n) orders) (sym same_count) (orders_are f orders z)
 
-  -- the report of a file is lawful
-  pub report_is_lawful : IsFile f → length orders ≤ 64 → (e : Encoding) → IsOneBitEncoding (count_of orders) orders e → AreCodes 1 (length orders) e.codes → (n : Netlist) → IsNetlistOf e n →
-      IsReport (record { bits = 1; budget = 2000000; names = f.operations; scenario_names = scenario_names_of f; scenarios = map covering_scenario orders; encoding = e; bound = Minimum 0; netlist = n })
-  report_is_lawful file few e is codes n equations =
-      let covering : length (map covering_scenario orders) ≡ length orders = length-map orders covering_scenario in
-      let no_gate : length e.gates.gates ≡ 0 = ap length is.no_gate in
-      record {
-        some_bit = omega arith;
-        few_bits = omega arith;
-        some_budget = omega arith;
-        few_budget = omega arith;
-        few_names = file.1.few_operations;
-        names = operations_are_names f file;
-        distinct = operations_are_distinct f file;
-        some_scenario = omega (arith, covering, some);
-        few_scenarios = omega (arith, covering, few);
-        one_name_each = names_each f orders z ∙ sym covering;
-        scenario_names = scenarios_have_names f file;
-        scenarios = all_map (IsOrderOf (length f.operations)) (IsReported (length f.operations)) covering_scenario (reported (length f.operations)) orders (orders_are f orders z);
-        inputs = is.inputs;
-        one_code_each = codes.one_each ∙ sym (length-map orders covering_scenario);
-        few_gates = omega (arith, no_gate);
-        encoding = subst (λ n. IsEncoding n e) same_count is.encoding;
-        bound = refl;
-        netlist = equations;
-      }
+  -- the report of a file over so many bits is lawful
+  module _ (file : IsFile f) (few : length orders ≤ 64) (bits : ℕ) (some_bit : 1 ≤ bits) (few_bits : bits ≤ 8)
+      (e : Encoding) (encodes : Encodes (count_of orders) orders (open_patterns (length orders)) bits e) (few_gates : length e.gates.gates ≤ 64320)
+      (b : Bound) (bound : IsBound (length e.gates.gates) b) (n : Netlist) (netlist : IsNetlistOf e n) where
+    abbrev report : ReportValue
+    report = record { bits = bits; budget = 2000000; names = f.operations; scenario_names = scenario_names_of f; scenarios = map covering_scenario orders; encoding = e; bound = b; netlist = n }
 
-  -- and is its synthesis
-  pub report_is_synthesis : IsFile f → length orders ≤ 2 → AreDifferent orders → (e : Encoding) → IsOneBitEncoding (count_of orders) orders e → AreCodes 1 (length orders) e.codes → Fits e orders → (n : Netlist) → IsNetlistOf e n →
-      IsSynthesis f (record { bits = 1; budget = 2000000; names = f.operations; scenario_names = scenario_names_of f; scenarios = map covering_scenario orders; encoding = e; bound = Minimum 0; netlist = n })
-  report_is_synthesis file few different e is codes fits n equations = record {
-    report = report_is_lawful file (omega (arith, few)) e is codes n equations;
-    bits = refl;
-    budget = refl;
-    names = refl;
-    scenario_names = refl;
-    orders = orders;
-    of_file = z;
-    different = different;
-    enough_bits = few;
-    scenarios = refl;
-    codes = codes;
-    fits = (fits_is_fitting_scenarios_lem e z.scenarios orders z.of_scenarios).0 fits;
-    encodes = record {
-      bits_are = is.inputs;
-      codes = codes;
-      given = keeps_open e.codes (length orders) codes.one_each;
-      encoding = subst (λ n. IsEncoding n e) same_count is.encoding;
-      fits = fits;
-    };
-    conditions = subst (λ n. IsOneBitEncoding n orders e) same_count is;
-    bound = (sym (ap length is.no_gate), λ cost l h. absurd (omega arith));
-  }
+    pub report_is_lawful : IsReport report
+    report_is_lawful =
+        let covering : length (map covering_scenario orders) ≡ length orders = length-map orders covering_scenario in
+        record {
+          some_bit = some_bit;
+          few_bits = few_bits;
+          some_budget = omega arith;
+          few_budget = omega arith;
+          few_names = file.1.few_operations;
+          names = operations_are_names f file;
+          distinct = operations_are_distinct f file;
+          some_scenario = omega (arith, covering, some);
+          few_scenarios = omega (arith, covering, few);
+          one_name_each = names_each f orders z ∙ sym covering;
+          scenario_names = scenarios_have_names f file;
+          scenarios = all_map (IsOrderOf (length f.operations)) (IsReported (length f.operations)) covering_scenario (reported (length f.operations)) orders (orders_are f orders z);
+          inputs = encodes.bits_are;
+          one_code_each = encodes.codes.one_each ∙ sym covering;
+          few_gates = omega (arith, few_gates);
+          encoding = subst (λ m. IsEncoding m e) same_count encodes.encoding;
+          bound = bound;
+          netlist = netlist;
+        }
+
+    -- and is its synthesis, where the encoding is the first
+    pub report_is_synthesis : (said : Option ℕ) → IsBits said (length orders) bits → length orders ≤ 2 ^ bits → AreDifferent orders → IsFirstAssignment (count_of orders) orders bits e → IsBoundOf (length f.operations) orders e b → IsSynthesis said f report
+    report_is_synthesis said bits_are enough different first known = record {
+      report = report_is_lawful;
+      budget = refl;
+      names = refl;
+      scenario_names = refl;
+      orders = orders;
+      of_file = z;
+      different = different;
+      bits = bits_are;
+      enough_bits = enough;
+      scenarios = refl;
+      codes = encodes.codes;
+      fits = (fits_is_fitting_scenarios_lem e z.scenarios orders z.of_scenarios).0 encodes.fits;
+      encodes = subst (λ m. Encodes m orders (open_patterns (length orders)) bits e) same_count encodes;
+      conditions = subst (λ m. IsFirstAssignment m orders bits e) same_count first;
+      few_gates = few_gates;
+      bound = known;
+    }
 
 slice_get_at : (xs : List Scenario) (k : ℕ) (x : Scenario) → k < length xs → x ≡ slice_index_or xs k x → slice_get xs k ≡ Some x
 slice_get_at xs k x l is = slice_get-get_or xs k x l ∙ ap Some (sym is)

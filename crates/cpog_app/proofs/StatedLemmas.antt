@@ -13,7 +13,7 @@ use Rattle.pg_text.specs.Text.{count_in, count_of}
 use Rattle.pg_normal.specs.Naming.{scope_after, scope_from}
 use Rattle.pg_normal.specs.Normals.{Before, none_before, with_statement, params_in}
 use Rattle.pg_normal.proofs.NamingLemmas.{next}
-use Rattle.cpog_app.specs.Denoting.{Stated, stated, stated_from, stated_in, scenario_names_of}
+use Rattle.cpog_app.specs.Denoting.{Stated, stated, stated_from, scenario_names_of}
 
 -- ---- the line at hand
 

@@ -1,19 +1,19 @@
 -- The answers of `synth`, out of what is known of a file.
-use Rattle.std.proofs.Common.{◌≡◌, ℕ, ◌<◌, List, [], ◌∷◌, length, slice_get, refl, sym, ap, ◌∙◌, subst, arith}
+use Rattle.std.proofs.Common.{◌≡◌, ℕ, ◌<◌, List, [], length, slice_get, sym, ap, ◌∙◌, arith}
 use Rattle.std.specs.Prelude.{IsSomeAnd}
 use Rattle.std.proofs.lemmas.List.{length-map}
 use Rattle.std.proofs.lemmas.Option.{slice_get_within}
 use Rattle.cpog_defs.specs.Orders.{Order}
-use Rattle.cpog_defs.specs.Scenarios.{Scenario, AreOrdersOf}
+use Rattle.cpog_defs.specs.Scenarios.{Scenario}
 use Rattle.pg_text.specs.Contents.{Contents}
 use Rattle.pg_normal.specs.Naming.{name_faults}
 use Rattle.pg_normal.specs.Normals.{params_in}
 use Rattle.scenario_check.specs.Equals.{IsFirstPair}
 use Rattle.cpog_app.specs.declared.refusal.Refusal.TheVariants as refusal
 use Rattle.cpog_app.specs.Refusal.{refusal_text}
-use Rattle.cpog_app.specs.Denoting.{Stated, stated_in, scenario_names_of, AreScenariosOf, AreOrdersIn, IsFirstUnbound}
+use Rattle.cpog_app.specs.Denoting.{stated_in, scenario_names_of, AreScenariosOf, AreOrdersIn, IsFirstUnbound}
 use Rattle.cpog_app.specs.Synthesis.{IsFirstCyclic}
-use Rattle.cpog_app.specs.Answers.{IsEmptyAnswer, IsUnboundAnswer, IsCyclicAnswer, IsEqualAnswer}
+use Rattle.cpog_app.specs.Answers.{IsUnboundAnswer, IsCyclicAnswer, IsEqualAnswer}
 use Rattle.cpog_app.proofs.ListLemmas.{some_at}
 use Rattle.cpog_app.proofs.DenotingLemmas.{length-denoted}
 use Rattle.cpog_app.proofs.OpenLemmas.{open_is_known}
@@ -27,6 +27,11 @@ there P xs k h = let x = some_at P (slice_get xs k) h in slice_get_within xs k x
 
 pub unbound_below : (f : Contents) (line k : ℕ) → IsFirstUnbound f line k → k < length (params_in f)
 unbound_below f line k first = open_is_known f first.place k first.scenario first.stands first.unbound
+
+pub unbound_answer : (f : Contents) (output : List ℕ) (line k : ℕ) → name_faults f ≡ [] → IsFirstUnbound f line k → IsSomeAnd (slice_get (params_in f) k) (λ name. output ≡ refusal_text (refusal.Unbound line name)) → IsUnboundAnswer f output
+unbound_answer f output line k named first is =
+    let name = some_at (λ name. output ≡ refusal_text (refusal.Unbound line name)) (slice_get (params_in f) k) is in
+    record { named = named; line = line; number = k; first = first; name = name.0; name_is = name.1; output_is = name.2 }
 
 -- ---- an operation before itself
 

@@ -1,5 +1,5 @@
 -- What is printed for a file, by the command and the status.
-use Rattle.std.specs.Prelude.{◌≡◌, ◌⊎◌, List, [], ℕ, ◌<◌, length, slice_get, Some}
+use Rattle.std.specs.Prelude.{◌≡◌, ◌⊎◌, List, [], ℕ, ◌<◌, ◌^◌, length, slice_get, Option, Some}
 use Rattle.cpog_base.specs.declared.limits.Counted.TheVariants as counted
 use Rattle.cpog_base.specs.declared.status.Status.{Status}
 use Rattle.cpog_base.specs.declared.status.Status.TheVariants as status
@@ -18,6 +18,7 @@ use Rattle.report_text.specs.Rows.{report_lines}
 use Rattle.cpog_app.specs.declared.refusal.Refusal.TheVariants as refusal
 use Rattle.cpog_app.specs.declared.words.Command.{Command}
 use Rattle.cpog_app.specs.declared.words.Command.TheVariants as command
+use Rattle.cpog_app.specs.Bits.{IsBits}
 use Rattle.cpog_app.specs.Refusal.{refusal_text, IsNamesLine}
 use Rattle.cpog_app.specs.Denoting.{stated_in, scenario_names_of, AreScenariosOf, AreOrdersIn, IsFirstUnbound}
 use Rattle.cpog_app.specs.Synthesis.{IsFirstCyclic, AreDifferent, IsSynthesis}
@@ -37,6 +38,7 @@ pub record IsFormsAnswer (f : Contents) (output : List ℕ) : Type 0 where
   pub of_file : AreNormalsOf f normals
   pub output_is : output ≡ normal_text f normals
 
+-- the answers to `normal`, by the status
 abbrev pub IsNormalAnswer : Contents → Status → List ℕ → Type 0
 IsNormalAnswer f status.Ok output = IsFormsAnswer f output
 IsNormalAnswer f status.Names output = IsNameFaultAnswer f output
@@ -87,30 +89,33 @@ pub record IsEqualAnswer (f : Contents) (output : List ℕ) : Type 0 where
   pub earlier_is : slice_get (scenario_names_of f) earlier ≡ Some earlier_name
   pub output_is : output ≡ refusal_text (refusal.Equal later_name earlier_name)
 
--- no scenario has an operation before itself, no two are equal, and there are more of them than codes of one bit
-pub record IsManyAnswer (f : Contents) (output : List ℕ) : Type 0 where
+-- no scenario has an operation before itself, no two are equal, and there are more of them than codes of so many bits
+pub record IsManyAnswer (said : Option ℕ) (f : Contents) (output : List ℕ) : Type 0 where
   pub orders : List Order
   pub of_file : AreOrdersIn f orders
   pub different : AreDifferent orders
-  pub many : 2 < length orders
-  pub output_is : output ≡ refusal_text (refusal.Limit counted.Bits 1)
+  pub bits : ℕ
+  pub bits_are : IsBits said (length orders) bits
+  pub many : 2 ^ bits < length orders
+  pub output_is : output ≡ refusal_text (refusal.Limit counted.Bits bits)
 
 -- the text of its report, which ends with a controller of its scenarios under the printed codes
-pub record IsReportAnswer (f : Contents) (output : List ℕ) : Type 0 where
+pub record IsReportAnswer (said : Option ℕ) (f : Contents) (output : List ℕ) : Type 0 where
   pub report : ReportValue
-  pub synthesis : IsSynthesis f report
+  pub synthesis : IsSynthesis said f report
   pub output_is : output ≡ text_of (report_lines report)
   pub controller : PrintsController f.operations synthesis.orders report.encoding.codes output
 
-abbrev pub IsSynthAnswer : Contents → Status → List ℕ → Type 0
-IsSynthAnswer f status.Ok output = IsReportAnswer f output
-IsSynthAnswer f status.Names output = IsNameFaultAnswer f output ⊎ (IsEmptyAnswer f output ⊎ IsUnboundAnswer f output)
-IsSynthAnswer f status.Cyclic output = IsCyclicAnswer f output
-IsSynthAnswer f status.Equal output = IsEqualAnswer f output
-IsSynthAnswer f status.Limit output = IsManyAnswer f output
-IsSynthAnswer f other output = ⊥
+-- the answers to `synth`, by the status
+abbrev pub IsSynthAnswer : Option ℕ → Contents → Status → List ℕ → Type 0
+IsSynthAnswer said f status.Ok output = IsReportAnswer said f output
+IsSynthAnswer said f status.Names output = IsNameFaultAnswer f output ⊎ (IsEmptyAnswer f output ⊎ IsUnboundAnswer f output)
+IsSynthAnswer said f status.Cyclic output = IsCyclicAnswer f output
+IsSynthAnswer said f status.Equal output = IsEqualAnswer f output
+IsSynthAnswer said f status.Limit output = IsManyAnswer said f output
+IsSynthAnswer said f other output = ⊥
 
 -- the answers of a command
 abbrev pub IsFileAnswer : Command → Contents → Status → List ℕ → Type 0
-IsFileAnswer command.Synth f s output = IsSynthAnswer f s output
+IsFileAnswer (command.Synth said) f s output = IsSynthAnswer said f s output
 IsFileAnswer command.Normal f s output = IsNormalAnswer f s output

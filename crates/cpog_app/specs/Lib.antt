@@ -1,8 +1,8 @@
 pub mod Words
+pub mod Bits
 pub mod Refusal
 pub mod Denoting
 pub mod Scenarios
-pub mod Conditions
 pub mod Synthesis
 pub mod Faults
 pub mod Printed

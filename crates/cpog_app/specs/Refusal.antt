@@ -8,6 +8,7 @@ use Rattle.pg_normal.specs.declared.naming.NameFault.TheVariants as fault
 use Rattle.cpog_app.specs.declared.refusal.Refusal.{Refusal}
 use Rattle.cpog_app.specs.declared.refusal.Refusal.TheVariants as refusal
 
+-- the word for what a limit counts
 abbrev pub counted_word : Counted → List ℕ
 counted_word counted.Input = codes "input"
 counted_word counted.Params = codes "params"
@@ -22,6 +23,7 @@ counted_word counted.Variables = codes "variables"
 abbrev pub names_text : ℕ → List ℕ → List ℕ → List ℕ
 names_text line what name = codes "cpog: names: line " ++ (decimal line ++ (codes ": " ++ (what ++ (codes " " ++ (name ++ codes "\n")))))
 
+-- the line of each refusal
 abbrev pub refusal_text : Refusal → List ℕ
 refusal_text refusal.Usage = codes "cpog: usage: synth [--bits D] [--budget D] [--exact] | normal | cnf G [--bits D] | solve [--budget D] | lrat | check | verilog | sim | bulk N\n"
 refusal_text refusal.ReadFault = codes "cpog: read fault\n"

@@ -1,10 +1,22 @@
 -- The words of the command line, and the command that they name.
-use Rattle.std.specs.Prelude.{List, [], ◌∷◌, ℕ, Option, Some, None, if◌then◌else◌, codes}
+use Rattle.std.specs.Prelude.{List, [], ◌∷◌, ℕ, ◌-◌, ◌&&◌, nat_lt, Option, Some, None, if◌then◌else◌, codes}
 use Rattle.std.specs.Str.{bytes_eq}
 use Rattle.cpog_app.specs.declared.words.Command.{Command}
 use Rattle.cpog_app.specs.declared.words.Command.TheVariants as command
 
--- the one word `synth`, or the one word `normal`
+-- a number from 1 to 8, as its digit
+abbrev pub bits_in : List ℕ → Option ℕ
+bits_in (digit ∷ []) = if nat_lt 48 digit && nat_lt digit 57 then Some (digit - 48) else None
+bits_in word = None
+
+-- with so many code bits
+abbrev pub synth_over : Option ℕ → Option Command
+synth_over None = None
+synth_over (Some bits) = Some (command.Synth (Some bits))
+
+-- the word `synth` alone or with `--bits` and a number from 1 to 8 behind it, or the one word `normal`
 abbrev pub command_of : List (List ℕ) → Option Command
-command_of (word ∷ []) = if bytes_eq word (codes "synth") then Some command.Synth else (if bytes_eq word (codes "normal") then Some command.Normal else None)
+command_of (word ∷ []) = if bytes_eq word (codes "synth") then Some (command.Synth None) else (if bytes_eq word (codes "normal") then Some command.Normal else None)
+command_of (word ∷ option ∷ value ∷ []) =
+    if bytes_eq word (codes "synth") && bytes_eq option (codes "--bits") then synth_over (bits_in value) else None
 command_of words = None

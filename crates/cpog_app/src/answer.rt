@@ -1,8 +1,9 @@
 //! The whole answer to words and an input, before anything is written.
-ghost use Rattle.std.specs.Prelude.{◌≡◌, ◌≤◌, IfOk, map, length};
+ghost use Rattle.std.specs.Prelude.{◌≤◌, IfOk, map, length};
 ghost use Rattle.std.specs.String.{string_bytes};
 ghost use Rattle.cpog_outside.specs.Told.{LosesFront};
 ghost use Rattle.pg_normal.specs.Normals.{AreNormalsOf};
+ghost use Rattle.cpog_app.specs.Bits.{MayBeNamed};
 ghost use Rattle.cpog_app.specs.Answers.{IsNormalAnswer, IsFileAnswer};
 ghost use Rattle.cpog_app.specs.Allowed.{IsTextAnswer, IsReadingAnswer, IsAllowed};
 
@@ -37,11 +38,12 @@ fn answer_normal(alloc: Global, file: &File, normals: &NormalList) -> Result<Ans
 
 /// What is printed for a file.
 fn answer_file(alloc: Global, command: Command, file: File) -> Result<Answer, Memory>
+    requires { MayBeNamed command }
     ensures { IfOk result (λ a. IsFileAnswer command file a.status a.output.items) }
 {
     match normals(alloc, &file) {
         Ok(normals) => match command {
-            Command::Synth => answer_synth(alloc, file, &normals),
+            Command::Synth { bits } => answer_synth(alloc, bits, file, &normals),
             Command::Normal => answer_normal(alloc, &file, &normals),
         },
         Err(fault) => refuse_names(alloc, fault),
@@ -50,7 +52,8 @@ fn answer_file(alloc: Global, command: Command, file: File) -> Result<Answer, Me
 
 /// What is printed for a graph text.
 fn answer_text(alloc: Global, command: Command, bytes: &[u8]) -> Result<Answer, Memory>
-    requires { length bytes.now ≤ 1048576 }
+    requires command { MayBeNamed command }
+    requires few { length bytes.now ≤ 1048576 }
     ensures { IfOk result (λ a. IsTextAnswer command bytes.now a.status a.output.items) }
 {
     match read_file(alloc, bytes) {
@@ -69,6 +72,7 @@ fn answer_source<S: Source>(
     command: Command,
     source: &mut S,
 ) -> Result<Answer, Memory>
+    requires { MayBeNamed command }
     ensures allowed { IfOk result (λ a. IsReadingAnswer command
         (record { left = S.left source.old; left_after = S.left source.new; faults = S.faults source.old; faults_after = S.faults source.new })
         a.status a.output.items) }

@@ -1,8 +1,6 @@
 //! From the normal forms of a file to the scenarios that it denotes. The forms stand in the order of the statements, one
 //! for each graph and each scenario.
-ghost use Rattle.std.specs.Prelude.{◌≡◌, ◌<◌, ◌≤◌, IfOk, IfErr, IsSomeAnd, length, slice_get};
-ghost use Rattle.pg_normal.specs.Changes.{IsBelow};
-ghost use Rattle.pg_normal.specs.Instances.{IsInstance, IsInstanceFault};
+ghost use Rattle.std.specs.Prelude.{◌<◌, ◌≤◌, IfOk, IfErr, length};
 ghost use Rattle.pg_normal.specs.Normals.{AreNormalsOf};
 ghost use Rattle.cpog_app.specs.Denoting.{AreScenariosOf};
 ghost use Rattle.cpog_app.specs.Faults.{IsDenotingFault};

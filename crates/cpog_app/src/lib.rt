@@ -1,10 +1,10 @@
-//! The program over any source and sink. The crates that read, check, encode and write stand below it: the words name a command, the input is
-//! read whole, the answer (a status and an output) is made of it, and the output is written once. `run_cpog` promises
-//! that what is printed is what the words and the bytes read allow, for every source and sink.
+//! The program over any source and sink. The crates that read, check, encode and write stand below it: the words name a
+//! command, the input is read whole, the answer (a status and an output) is made of it, and the output is written once.
+//! `run_cpog` promises that what is printed is what the words and the bytes read allow, for every source and sink, and for
+//! every number of scenarios and of code bits within the limits.
 #![tactic(auto)]
 
 mod answer;
-mod conditions;
 mod denoting;
 mod fault;
 mod laws;

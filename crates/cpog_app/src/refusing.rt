@@ -1,6 +1,5 @@
 //! Answers that refuse: a status, and the line that says why.
-ghost use Rattle.std.specs.Prelude.{◌≡◌, ◌<◌, [], IfOk, IsSomeAnd, length, slice_get};
-ghost use Rattle.pg_normal.specs.Naming.{name_faults};
+ghost use Rattle.std.specs.Prelude.{◌≡◌, ◌<◌, IfOk, IsSomeAnd, length, slice_get};
 ghost use Rattle.pg_normal.specs.Normals.{params_in};
 ghost use Rattle.cpog_base.specs.declared.status.Status.TheVariants as status;
 ghost use Rattle.cpog_app.specs.declared.refusal.Refusal.TheVariants as refusal;

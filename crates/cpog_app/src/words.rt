@@ -1,14 +1,26 @@
+//! The words of the command line. A command stands first, and its options behind it.
 ghost use Rattle.std.specs.Prelude.{◌≡◌, map};
 ghost use Rattle.std.specs.String.{string_bytes};
-ghost use Rattle.cpog_app.specs.Words.{command_of};
+ghost use Rattle.cpog_app.specs.Words.{bits_in, command_of};
 
 /// What the words of the command line ask for.
 #[derive(Clone, Copy, Debug, PartialEq, Eq)]
 pub enum Command {
-    /// Print the report of the graph text that is read.
-    Synth,
+    /// Print the report of the graph text that is read, over so many code bits, from 1 to 8; or else over the fewest that give each
+    /// scenario a code of its own.
+    Synth { bits: Option<u8> },
     /// Print the normal forms of the graph text that is read.
     Normal,
+}
+
+/// The number of code bits that a word says: one digit from 1 to 8.
+fn bits_in(word: &str) -> Option<u8>
+    ensures { result ≡ bits_in word.now }
+{
+    match word.as_bytes() {
+        [digit @ b'1'..=b'8'] => Some(*digit - b'0'),
+        _ => None,
+    }
 }
 
 /// The command that the words name, without the program's name. There is none where they are outside the usage line.
@@ -16,8 +28,12 @@ pub fn read_words(words: &[String]) -> Option<Command>
     ensures { result ≡ command_of (map string_bytes words.now) }
 {
     match words {
-        [word] if word.as_str() == "synth" => Some(Command::Synth),
+        [word] if word.as_str() == "synth" => Some(Command::Synth { bits: None }),
         [word] if word.as_str() == "normal" => Some(Command::Normal),
+        [word, option, value] if word.as_str() == "synth" && option.as_str() == "--bits" => {
+            let bits = bits_in(value.as_str())?;
+            Some(Command::Synth { bits: Some(bits) })
+        }
         _ => None,
     }
 }

@@ -12,6 +12,8 @@ mod failing;
 #[cfg(test)]
 mod forms;
 #[cfg(test)]
+mod gates;
+#[cfg(test)]
 mod limits;
 #[cfg(test)]
 mod names;

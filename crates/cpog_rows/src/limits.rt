@@ -36,7 +36,7 @@ fn many_graphs(alloc: Global, graphs: u32) -> Result<String, Fail> {
 #[test]
 fn counts_and_their_limits(rt: HostRuntime) -> Result<(), Fail> {
     let alloc = rt.alloc();
-    let table: [(String, Status, &[u8]); 8] = [
+    let table: [(String, Status, &[u8]); 6] = [
         (
             String::from_str(alloc, "params a, b, c, d\nparams a, b, c\n")?,
             Status::Limit,
@@ -61,16 +61,6 @@ fn counts_and_their_limits(rt: HostRuntime) -> Result<(), Fail> {
             many_scenarios(alloc, 65)?,
             Status::Limit,
             b"cpog: limit: scenarios 64\n",
-        ),
-        (
-            many_scenarios(alloc, 64)?,
-            Status::Limit,
-            b"cpog: limit: bits 1\n",
-        ),
-        (
-            many_scenarios(alloc, 3)?,
-            Status::Limit,
-            b"cpog: limit: bits 1\n",
         ),
         (
             String::from_str(alloc, "# nothing\n\n  # here\n")?,
@@ -113,6 +103,24 @@ fn a_text_too_long_is_told(rt: HostRuntime) -> Result<(), Fail> {
         let input = Vec::from_elem(alloc, b' ', length)?;
         let ending = run(alloc, &["synth"], input.as_slice())?;
         assert_eq!(rt; ending.status, status);
+        assert_eq!(rt; ending.taken.as_slice(), want);
+    }
+    Ok(())
+}
+
+#[test]
+fn too_few_bits_are_told(rt: HostRuntime) -> Result<(), Fail> {
+    let alloc = rt.alloc();
+    let table: [(u32, &str, &[u8]); 4] = [
+        (64, "1", b"cpog: limit: bits 1\n"),
+        (3, "1", b"cpog: limit: bits 1\n"),
+        (9, "3", b"cpog: limit: bits 3\n"),
+        (33, "5", b"cpog: limit: bits 5\n"),
+    ];
+    for (scenarios, bits, want) in table {
+        let input = many_scenarios(alloc, scenarios)?;
+        let ending = run(alloc, &["synth", "--bits", bits], input.as_bytes())?;
+        assert_eq!(rt; ending.status, Status::Limit);
         assert_eq!(rt; ending.taken.as_slice(), want);
     }
     Ok(())

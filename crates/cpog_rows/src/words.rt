@@ -9,13 +9,21 @@ const USAGE: &[u8] =
 
 #[test]
 fn other_words_print_the_usage_line(rt: HostRuntime) -> Result<(), Fail> {
-    let table: [&[&str]; 8] = [
+    let table: [&[&str]; 16] = [
         &[],
         &["help"],
         &["Synth"],
         &["synth", "x"],
-        &["synth", "--bits", "9"],
         &["synth", ""],
+        &["synth", "--bits"],
+        &["synth", "--bits", "0"],
+        &["synth", "--bits", "9"],
+        &["synth", "--bits", "02"],
+        &["synth", "--bits", ""],
+        &["synth", "--bits=2"],
+        &["synth", "--bits", "2", "--bits", "2"],
+        &["--bits", "2", "synth"],
+        &["normal", "--bits", "2"],
         &["normal", "x"],
         &["Normal"],
     ];

@@ -1,4 +1,4 @@
-use Rattle.std.proofs.Common.{◌≡◌, ◌<◌, ◌≤◌, ◌+◌, ◌∷◌, [], ◌++◌, ℕ, List, length, sym, ap, ap₂, ◌∙◌, subst, arith}
+use Rattle.std.proofs.Common.{◌≡◌, ◌+◌, ◌∷◌, [], ◌++◌, ℕ, List, length, sym, ap, ◌∙◌, subst, arith}
 use Rattle.cpog_defs.specs.Scenarios.{Scenario}
 use Rattle.pg_text.specs.Text.{IsFile}
 use Rattle.pg_normal.proofs.BoundLemmas.{form_is_below, bound_is_few}

@@ -1,4 +1,4 @@
-use Rattle.std.proofs.Common.{◌≡◌, ◌+◌, ◌-◌, ℕ, List, length, drop, slice_get, slice_index_or, sym, ap, ap₂, ◌∙◌, subst, arith}
+use Rattle.std.proofs.Common.{◌+◌, ◌-◌, length, drop, slice_get, slice_index_or, sym, ap, ◌∙◌, arith}
 use Rattle.std.proofs.lemmas.List.{drop_all}
 use Rattle.cpog_app.proofs.StatedLemmas.{params_from, params_are, param_here, param_later, param_passed}
 use Rattle.cpog_app.proofs.naming.param_name.Goals as goal

@@ -1,4 +1,4 @@
-use Rattle.std.proofs.Common.{rules, ◌≡◌}
+use Rattle.std.proofs.Common.{rules}
 use Rattle.cpog_app.proofs.refusal.refusal_line.Goals as goal
 use Rattle.cpog_app.proofs.refusal.refusal_line.Goals.{in-Usage+in_ok-line-in-Usage, in-ReadFault+in_ok-line-in-ReadFault, in-Text+in_ok-line-in-Text, in-Duplicate+in_ok-line-in-Duplicate, in-UnknownGraph+in_ok-line-in-UnknownGraph, in-UnknownParam+in_ok-line-in-UnknownParam, in-Unbound+in_ok-line-in-Unbound, in-NoScenario+in_ok-line-in-NoScenario, in-Cyclic+in_ok-line-in-Cyclic, in-Equal+in_ok-line-in-Equal, in-Limit+in_ok-line-in-Limit}
 

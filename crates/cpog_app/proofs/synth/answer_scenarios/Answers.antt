@@ -32,6 +32,6 @@ returns-in-Err-Cyclic c =
     let v = c.in-Err-Cyclic.v.0 in
     let first : IsFirstCyclic c.args.scenarios.now s v = rw c.in-Err-Cyclic.field-0-is at c.in-Err-Cyclic.ensures.err in
     if_ok_map (λ (a : Answer). (a.status ≡ status.Cyclic) × IsSomeAnd (slice_get names s) (λ scenario. IsSomeAnd (slice_get f.operations v) (λ operation. a.output.items ≡ refusal_text (refusal.Cyclic scenario operation))))
-    (λ (a : Answer). IsSynthAnswer f a.status a.output.items) c.refuse_cycle.result
-    (λ a h. subst (λ st. IsSynthAnswer f st a.output.items) (sym h.0) (cyclic_answer f names (c.deref-in-Err-Cyclic.ensures.value ∙ c.requires.names) c.args.scenarios.now c.requires.scenarios a.output.items s v c.requires.named first h.1))
+    (λ (a : Answer). IsSynthAnswer c.args.said f a.status a.output.items) c.refuse_cycle.result
+    (λ a h. subst (λ st. IsSynthAnswer c.args.said f st a.output.items) (sym h.0) (cyclic_answer f names (c.deref-in-Err-Cyclic.ensures.value ∙ c.requires.names) c.args.scenarios.now c.requires.scenarios a.output.items s v c.requires.named first h.1))
     (rw (c.in-Err-Cyclic.s-is, c.in-Err-Cyclic.v-is, c.operations.ensures) at c.refuse_cycle.ensures)
