@@ -5,7 +5,7 @@ use Rattle.std.specs.List.{list_any, position_or_len, count_by, sum_by, All, All
 use Rattle.std.proofs.lemmas.Bool.{cases_lt, cases_eq, both_ways, cases_Bool, or_parts, or_left, or_right, or_from, and_right, and_from, eqb-true, eq-eqb, lt-ltb, ltb-true}
 use Rattle.std.proofs.lemmas.Bool.Decides.{nat_tests}
 use Rattle.std.proofs.lemmas.List.Folds.{list_any-append}
-use Rattle.std.proofs.lemmas.List.Sums.{sum_by-cons}
+use Rattle.std.proofs.lemmas.List.Sums.{sum_by-cons, sum_by-le, count_by-le-length}
 use Rattle.std.proofs.Math.Nat.{mul-le-mul_left}
 use Rattle.cpog_defs.specs.declared.types.Bit3.{Bit3}
 use Rattle.cpog_defs.specs.declared.types.Gate.{Gate}
@@ -13,13 +13,13 @@ use Rattle.cpog_defs.specs.declared.types.Ref.{Ref}
 use Rattle.cpog_defs.specs.Gates.{GateList, AreGatesFrom, IsGateList}
 use Rattle.cpog_defs.specs.Entries.{entry_at}
 use Rattle.cpog_base.specs.Column.{is_one, is_zero}
-use Rattle.gate_core.specs.Columns.{IsOpenColumn, smaller_set}
+use Rattle.gate_core.specs.Columns.{smaller_set}
 use Rattle.cpog_defs.specs.Codes.{bit}
 use Rattle.gate_core.specs.First.{only_at, same_gate, Reached, with_gate, minterm, minterms, joined, sum_of_minterms, scenarios_where, has_fewer_zeros, smaller_scenarios, Takes, TakesAll, joins_of, all_joins, FirstEncoding, IsFirstEncoding, HasFewGates}
 use Rattle.gate_core.specs.Words.{IsEncodable}
 use Rattle.gate_core.proofs.ExtendLemmas.{Extends, extends_self, extends_trans, extends_last, with_last, same_gates, with_gate-there, with_gate-new, with_gate-signal}
 use Rattle.gate_core.proofs.MintermLemmas.{or_gate}
-use Rattle.gate_core.proofs.TakeLemmas.{passing-lt, length-scenarios, two_inputs, taken, AllTaken, encodable}
+use Rattle.gate_core.proofs.TakeLemmas.{passing-lt, all_weaker, length-scenarios, two_inputs, taken, all_taken}
 
 -- ---- a gate that is there again
 
@@ -316,35 +316,35 @@ length-smaller column = by (has_fewer_zeros column) refl
         least : (m n : ℕ) → nat_lt m n ≡ false → n ≡ min n m
         least m n e = grind (arith, nat_tests)
 
-smaller-lt : (column : List Bit3) → AllByRecursion (λ s. s < length column) (smaller_scenarios column)
-smaller-lt column = by (has_fewer_zeros column)
+smaller-lt : (n : ℕ) (column : List Bit3) → length column ≤ n → AllByRecursion (λ s. s < n) (smaller_scenarios column)
+smaller-lt n column l = all_weaker (λ s. s < length column) (λ s. s < n) (λ s m. omega (arith, l, m)) (smaller_scenarios column) (by (has_fewer_zeros column))
   where
     by : (b : Bool) → AllByRecursion (λ s. s < length column) (if b then scenarios_where is_zero column else scenarios_where is_one column)
     by true = passing-lt (λ s. is_zero (entry_at column s)) (length column)
     by false = passing-lt (λ s. is_one (entry_at column s)) (length column)
 
-pub takes_bounded : (n : ℕ) (before : GateList) (joins : ℕ) (column : List Bit3) → 1 ≤ before.inputs → IsEncodable before.inputs column → length column ≡ n → Bounded n before joins →
-    (after : GateList) (ref : Ref) (t : Takes before column after ref) → Bounded n after (joins + joins_of before column after ref t)
-takes_bounded n before joins column some enc long h after ref t = elim t as (λ u. Bounded n after (joins + joins_of before column after ref u)) [
-  | inl a ↦ subst (λ g. Bounded n g (joins + 0)) (sym a.gates) (bounded_more n before joins _ (omega arith) h)
-  | inr u ↦ elim u as (λ w. Bounded n after (joins + joins_of before column after ref (inr w))) [
-    | inl b ↦ subst (λ g. Bounded n g (joins + 0)) (sym b.gates) (pair_bounded n before joins b.gate b.pair.in_range h)
+pub takes_bounded : (before : GateList) (joins : ℕ) (column : List Bit3) → 1 ≤ before.inputs → IsEncodable before.inputs column → Bounded 64 before joins →
+    (after : GateList) (ref : Ref) (t : Takes before column after ref) → Bounded 64 after (joins + joins_of before column after ref t)
+takes_bounded before joins column some enc h after ref t = elim t as (λ u. Bounded 64 after (joins + joins_of before column after ref u)) [
+  | inl a ↦ subst (λ g. Bounded 64 g (joins + 0)) (sym a.gates) (bounded_more 64 before joins _ (omega arith) h)
+  | inr u ↦ elim u as (λ w. Bounded 64 after (joins + joins_of before column after ref (inr w))) [
+    | inl b ↦ subst (λ g. Bounded 64 g (joins + 0)) (sym b.gates) (pair_bounded 64 before joins b.gate b.pair.in_range h)
     | inr c ↦
         let q = smaller_scenarios column in
-        subst (λ g. Bounded n g (joins + (smaller_set column - 1))) (sym c.gates) (subst (λ m. Bounded n (sum_of_minterms before q).gates (joins + (m - 1))) (length-smaller column)
-        (sum_bounded n before joins q (two_inputs before.inputs column enc before refl some c.none) (subst (λ m. AllByRecursion (λ s. s < m) q) long (smaller-lt column)) h))
+        subst (λ g. Bounded 64 g (joins + (smaller_set column - 1))) (sym c.gates) (subst (λ m. Bounded 64 (sum_of_minterms before q).gates (joins + (m - 1))) (length-smaller column)
+        (sum_bounded 64 before joins q (two_inputs before.inputs column enc before refl some c.none) (smaller-lt 64 column enc.few) h))
   ]
 ]
 
-pub takes_all_bounded : (n : ℕ) (before : GateList) (joins : ℕ) → IsGateList before → 1 ≤ before.inputs → before.inputs ≤ 8 → Bounded n before joins → (columns : List (List Bit3)) → All (IsEncodable before.inputs) columns → All (λ c. length c ≡ n) columns →
-    (after : GateList) (refs : List Ref) (t : TakesAll before columns after refs) → Bounded n after (joins + all_joins before columns after refs t)
-takes_all_bounded n before joins ok some eight h [] enc long after refs t = subst (λ g. Bounded n g (joins + 0)) (sym t.0) (bounded_more n before joins (joins + 0) (omega arith) h)
-takes_all_bounded n before joins ok some eight h (column ∷ columns) enc long after refs t =
+pub takes_all_bounded : (before : GateList) (joins : ℕ) → IsGateList before → 1 ≤ before.inputs → Bounded 64 before joins → (columns : List (List Bit3)) → All (IsEncodable before.inputs) columns →
+    (after : GateList) (refs : List Ref) (t : TakesAll before columns after refs) → Bounded 64 after (joins + all_joins before columns after refs t)
+takes_all_bounded before joins ok some h [] enc after refs t = subst (λ g. Bounded 64 g (joins + 0)) (sym t.0) (bounded_more 64 before joins (joins + 0) (omega arith) h)
+takes_all_bounded before joins ok some h (column ∷ columns) enc after refs t =
     let between = t.0 in
-    let one = taken before column ok some eight (enc 0 column (omega arith)) between t.1 t.4 in
-    let b = takes_bounded n before joins column some (enc 0 column (omega arith)) (long 0 column (omega arith)) h between t.1 t.4 in
-    bounded_more n after _ _ (omega arith)
-    (takes_all_bounded n between (joins + joins_of before column between t.1 t.4) one.gates (omega (arith, one.extends.inputs)) (omega (arith, one.extends.inputs)) b columns (λ k d l. subst (λ i. IsEncodable i (slice_index_or columns k d)) (sym one.extends.inputs) (enc (suc k) d (omega arith))) (λ k d l. long (suc k) d (omega arith)) after t.2 t.5)
+    let one = taken before column ok some (enc 0 column (omega arith)) between t.1 t.4 in
+    let b = takes_bounded before joins column some (enc 0 column (omega arith)) h between t.1 t.4 in
+    bounded_more 64 after _ _ (omega arith)
+    (takes_all_bounded between (joins + joins_of before column between t.1 t.4) one.gates (omega (arith, one.extends.inputs)) b columns (λ k d l. subst (λ i. IsEncodable i (slice_index_or columns k d)) (sym one.extends.inputs) (enc (suc k) d (omega arith))) after t.2 t.5)
 
 -- ---- gates over two inputs
 
@@ -416,24 +416,25 @@ pairs_counted m n (g ∷ gates) l ok none = by (nat_lt g.k m) refl (pairs_counte
 
 -- ---- the whole
 
-pub few_gates : (n : ℕ) (list : GateList) (joins : ℕ) → IsGateList list → list.inputs ≤ 8 → n ≤ 64 → Bounded n list joins → length list.gates ≤ 832 + joins
-few_gates n list joins ok eight few h =
+pub few_gates : (list : GateList) (joins : ℕ) → IsGateList list → list.inputs ≤ 8 → Bounded 64 list joins → length list.gates ≤ 832 + joins
+few_gates list joins ok eight h =
     let pairs : pair_gates list.inputs list.gates ≤ 448 = omega (arith, pairs_counted list.inputs list.inputs list.gates eight ok h.holds.none_twice, how_many-le (has_row list.inputs list.gates) 448) in
-    omega (arith, pairs, pairs_and_others list.inputs list.gates, h.holds.few, product (list.inputs - 2) (how_many (is_done list) n) (omega arith) (omega (arith, how_many-le (is_done list) n)))
+    omega (arith, pairs, pairs_and_others list.inputs list.gates, h.holds.few, product (list.inputs - 2) (how_many (is_done list) 64) (omega arith) (how_many-le (is_done list) 64))
   where
     product : (k m : ℕ) → k ≤ 6 → m ≤ 64 → k * m ≤ 384
     product k m a b = omega (arith, mul-le-mul_left k b)
 
-pub nothing_bounded : (n bits : ℕ) → Bounded n (record { inputs = bits; gates = [] }) 0
+pub nothing_bounded : (list : GateList) → list.gates ≡ [] → Bounded 64 list 0
 unfolding other_gates
-nothing_bounded n bits = record { holds = record { none_twice = tt; few = omega arith } }
+nothing_bounded list none = record { holds = record { none_twice = subst NoneTwice (sym none) tt; few = omega (arith, ap (other_gates list.inputs) none) } }
 
-pub whole_bounded : (n bits : ℕ) → 1 ≤ bits → bits ≤ 8 → n ≤ 64 → n ≤ 2 ^ bits → (columns : List (List Bit3)) → All (IsOpenColumn n) columns →
-    (after : GateList) (refs : List Ref) (t : TakesAll (record { inputs = bits; gates = [] }) columns after refs) →
-    AllTaken (record { inputs = bits; gates = [] }) columns after refs → length after.gates ≤ 832 + all_joins (record { inputs = bits; gates = [] }) columns after refs t
-whole_bounded n bits some eight few enough columns h after refs t all =
-    let bound = few_gates n after (0 + all_joins (record { inputs = bits; gates = [] }) columns after refs t) all.gates (omega (arith, all.extends.inputs)) few
-    (takes_all_bounded n (record { inputs = bits; gates = [] }) 0 tt some eight (nothing_bounded n bits) columns (encodable n bits few enough columns h) (λ k d l. (h k d l).entries) after refs t) in
+-- the gates of columns that begin with none
+pub whole_bounded : (before : GateList) → before.gates ≡ [] → 1 ≤ before.inputs → before.inputs ≤ 8 → (columns : List (List Bit3)) → All (IsEncodable before.inputs) columns →
+    (after : GateList) (refs : List Ref) (t : TakesAll before columns after refs) → length after.gates ≤ 832 + all_joins before columns after refs t
+whole_bounded before none some eight columns enc after refs t =
+    let ok : IsGateList before = subst (AreGatesFrom before.inputs) (sym none) tt in
+    let all = all_taken before ok some columns enc after refs t in
+    let bound = few_gates after (0 + all_joins before columns after refs t) all.gates (omega (arith, all.extends.inputs)) (takes_all_bounded before 0 ok some (nothing_bounded before none) columns enc after refs t) in
     omega (arith, bound)
 
 -- where every column needed minterms, there would be as many
@@ -452,6 +453,20 @@ joins_are_few before (column ∷ columns) after refs t = omega (
       | inl a ↦ omega arith
       | inr w ↦ elim w as (λ x. joins_of before column t.0 t.1 (inr x) ≤ smaller_set column - 1) [ inl b ↦ omega arith | inr c ↦ omega arith ]
     ]
+
+-- so at most 2 ^ 24 columns leave room for one more among the signals of 32-bit numbers
+pub few_in_all : (before : GateList) → before.gates ≡ [] → 1 ≤ before.inputs → before.inputs ≤ 8 → (columns : List (List Bit3)) → All (IsEncodable before.inputs) columns → length columns ≤ 16777216 →
+    (after : GateList) (refs : List Ref) → TakesAll before columns after refs → length after.gates < 2 ^ 30
+few_in_all before none some eight columns enc l after refs t = omega (
+  arith,
+  l,
+  whole_bounded before none some eight columns enc after refs t,
+  joins_are_few before columns after refs t,
+  sum_by-le (λ column. smaller_set column - 1) 63 columns (λ k d m. small (slice_index_or columns k d) (enc k d m).few),
+)
+  where
+    small : (column : List Bit3) → length column ≤ 64 → smaller_set column - 1 ≤ 63
+    small column m = omega (arith, m, count_by-le-length is_one column)
 
 pub few_by_smaller : (n bits : ℕ) (columns : List (List Bit3)) (e : FirstEncoding) → IsFirstEncoding n bits columns e → HasFewGates n bits columns e →
     length e.gates.gates ≤ 832 + sum_by (λ column. smaller_set column - 1) columns

@@ -241,7 +241,6 @@ pub record IsJoined (one : Reached) (ss : List ℕ) (ms : List ℕ) (r : Reached
   pub gates : IsGateList r.gates
   pub in_range : r.signal < signal_count r.gates
   pub value : (t : ℕ) → IsTrue (value_at r.gates r.signal t) ↔ (IsTrue (value_at one.gates one.signal t) ⊎ SomeSame one.gates.inputs ss t)
-  pub few : length r.gates.gates ≤ length one.gates.gates + length ms
 
 pub joined_is : (one : Reached) (ss ms : List ℕ) → CanJoin one.gates one.signal ss ms → IsJoined one ss ms (joined one ms)
 unfolding joined
@@ -250,7 +249,6 @@ joined_is one [] [] h = record {
   gates = h.gates;
   in_range = h.in_range;
   value = λ t. (λ x. inl x, λ x. elim x [ inl y ↦ y | inr n ↦ absurd n ]);
-  few = omega arith;
 }
 joined_is one [] (m ∷ ms) h = absurd h.each
 joined_is one (s ∷ ss) [] h = absurd h.each
@@ -280,7 +278,6 @@ joined_is one (s ∷ ss) (m ∷ ms) h =
           ]
         ],
       );
-      few = omega (arith, a.few, rest.few);
     }
 
 -- ---- the sum of minterms
@@ -318,7 +315,6 @@ pub record IsSumOf (list : GateList) (ss : List ℕ) (r : Reached) : Type 0 wher
   pub gates : IsGateList r.gates
   pub in_range : r.signal < signal_count r.gates
   pub value : (t : ℕ) → IsTrue (value_at r.gates r.signal t) ↔ SomeSame list.inputs ss t
-  pub few : length r.gates.gates ≤ length list.gates + list.inputs * length ss
 
 pub sum_is : (list : GateList) → IsGateList list → 2 ≤ list.inputs → (ss : List ℕ) → 1 ≤ length ss → AllDiffer list.inputs ss → IsSumOf list ss (sum_of_minterms list ss)
 unfolding sum_of_minterms
@@ -346,16 +342,7 @@ sum_is list ok two (s ∷ ss) some differ =
           | inr y ↦ inr (subst (λ n. SomeSame n ss t) (sym whole) y)
         ]),
       );
-      few = total list.inputs (length ss) (length list.gates) (length one.gates.gates) (length others.gates.gates) (length (joined start others.signals).gates.gates) (length others.signals)
-          two (omega (arith, m.few)) (rw (m.extends.inputs) at rest.few) j.few (minterms_long others.gates ss others.signals rest.each);
     }
-  where
-    total : (k n a b c d ms : ℕ) → 2 ≤ k → b ≤ a + (k - 1) → c ≤ b + (k - 1) * n → d ≤ c + ms → ms ≡ n → d ≤ a + k * suc n
-    total k n a b c d ms two hb hc hd hm = omega (arith, product k n two)
-      where
-        product : (k n : ℕ) → 2 ≤ k → k * suc n ≡ k + (k - 1) * n + n
-        product zero n two = absurd (omega arith)
-        product (suc k) n two = let e : suc k - 1 ≡ k = omega arith in rw e (omega arith)
 
 -- ---- steps of code
 

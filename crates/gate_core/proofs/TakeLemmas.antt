@@ -1,12 +1,11 @@
 -- What each way to take a column gives: gates that are gates again, and a reference that agrees with the column.
-use Rattle.std.proofs.Common.{◌≡◌, ◌≢◌, ◌↔◌, ◌⊎◌, ℕ, zero, suc, ◌+◌, ◌*◌, ◌/◌, ◌%◌, ◌^◌, ◌<◌, ◌≤◌, ◌==◌, Bool, true, false, not, cond, if◌then◌else◌, IsTrue, List, [], ◌∷◌, ◌++◌, length, take, slice_get, slice_index_or, Some, refl, sym, ap, ap₂, ◌∙◌, subst, inl, inr, arith, add-one, length-append, append-nil}
+use Rattle.std.proofs.Common.{◌≡◌, ◌≢◌, ◌↔◌, ◌⊎◌, ℕ, zero, suc, ◌+◌, ◌/◌, ◌%◌, ◌^◌, ◌<◌, ◌≤◌, ◌==◌, Bool, true, false, not, cond, if◌then◌else◌, IsTrue, List, [], ◌∷◌, ◌++◌, length, take, slice_get, slice_index_or, Some, refl, sym, ap, ap₂, ◌∙◌, subst, inl, inr, arith, add-one, length-append, append-nil}
 use Rattle.std.specs.List.{list_any, count_by, AllByRecursion, All}
 use Rattle.std.proofs.lemmas.Bool.{cases_lt, cases_eq, both_ways, or_cases, false_from_ne_true}
 use Rattle.std.proofs.lemmas.Bool.Decides.{nat_tests}
 use Rattle.std.proofs.lemmas.Nat.Bits.{same_from_bits_below, bit_at-lt}
 use Rattle.std.proofs.lemmas.List.{get_or_append_left, get_or_at, take_more, take_all}
 use Rattle.std.proofs.lemmas.List.Sums.{sum_by-append, count_by-le-length}
-use Rattle.std.proofs.Math.Nat.{mul-le-mul_right}
 use Rattle.std.proofs.lemmas.Option.{slice_get_within, slice_get-get_or, get_or_from_slice_get}
 use Rattle.cpog_defs.specs.declared.types.Bit3.{Bit3}
 use Rattle.cpog_defs.specs.declared.types.Bit3.TheVariants.{Zero, One, Free}
@@ -141,7 +140,7 @@ all_append : (P : ℕ → Type 0) (xs ys : List ℕ) → AllByRecursion P xs →
 all_append P [] ys a b = b
 all_append P (x ∷ xs) ys a b = (a.0, all_append P xs ys a.1 b)
 
-all_weaker : (P Q : ℕ → Type 0) → ((x : ℕ) → P x → Q x) → (xs : List ℕ) → AllByRecursion P xs → AllByRecursion Q xs
+pub all_weaker : (P Q : ℕ → Type 0) → ((x : ℕ) → P x → Q x) → (xs : List ℕ) → AllByRecursion P xs → AllByRecursion Q xs
 all_weaker P Q f [] a = tt
 all_weaker P Q f (x ∷ xs) a = (f x a.0, all_weaker P Q f xs a.1)
 
@@ -311,9 +310,8 @@ pub record IsTaken (before : GateList) (column : List Bit3) (after : GateList) (
   pub gates : IsGateList after
   pub over : IsRefOver (signal_count after) ref
   pub agrees : RefAgrees after (numbers (length column)) column ref
-  pub few : length after.gates ≤ length before.gates + 576
 
-module _ (before : GateList) (column : List Bit3) (ok : IsGateList before) (some : 1 ≤ before.inputs) (eight : before.inputs ≤ 8) (enc : IsEncodable before.inputs column) where
+module _ (before : GateList) (column : List Bit3) (ok : IsGateList before) (some : 1 ≤ before.inputs) (enc : IsEncodable before.inputs column) where
   as_taken : (x y : GateList) (a b : Ref) → x ≡ y → a ≡ b → IsTaken before column x a → IsTaken before column y b
   as_taken x y a b same_gates same_ref h = subst (IsTaken before column y) same_ref (subst (λ g. IsTaken before column g a) same_gates h)
 
@@ -323,7 +321,6 @@ module _ (before : GateList) (column : List Bit3) (ok : IsGateList before) (some
     gates = ok;
     over = h.signal.in_range;
     agrees = h.signal.agrees;
-    few = omega arith;
   })
 
   pair_taken : (after : GateList) (ref : Ref) → IsByPair before column after ref → IsTaken before column after ref
@@ -340,11 +337,7 @@ module _ (before : GateList) (column : List Bit3) (ok : IsGateList before) (some
         agrees = agrees_from r.gates column r.signal false (λ s l. subst (Agrees (entry_at column s)) (sym (value s)) (agrees_by (entry_at column s) (gate_value gate.table (bit s gate.j) (bit s gate.k))
             (λ t. (h.pair.table (bit s gate.j) (bit s gate.k)).1 (s, entry_one (entry_at column s) t, refl, refl))
             (λ t. false_from_ne_true (gate_value gate.table (bit s gate.j) (bit s gate.k)) (λ one. let x = (h.pair.table (bit s gate.j) (bit s gate.k)).0 one in h.pair.tells x.0 s x.1 (entry_zero (entry_at column s) t) x.2 x.3))));
-        few = omega (arith, a.few);
       })
-
-  product : (k n : ℕ) → k ≤ 8 → n ≤ 64 → k * n ≤ 576
-  product k n l m = omega (arith, mul-le-mul_right n l)
 
   minterms_taken : (after : GateList) (ref : Ref) → IsByMinterms before column after ref → IsTaken before column after ref
   minterms_taken after ref h =
@@ -358,7 +351,6 @@ module _ (before : GateList) (column : List Bit3) (ok : IsGateList before) (some
         gates = sum.gates;
         over = sum.in_range;
         agrees = agrees_from r.gates column r.signal (has_fewer_zeros column) (λ s l. small.agrees s (value_at r.gates r.signal s) l (sum.value s));
-        few = omega (arith, sum.few, product before.inputs (length q) eight small.few);
       })
 
   pub taken : (after : GateList) (ref : Ref) → Takes before column after ref → IsTaken before column after ref
@@ -372,30 +364,12 @@ pub takes_push : (before : GateList) (columns : List (List Bit3)) (between : Gat
 takes_push before [] between refs column after ref h t = (after, ref, [], ap (λ r. r ++ ref ∷ []) h.1, subst (λ g. Takes g column after ref) h.0 t, (refl, refl))
 takes_push before (c ∷ columns) between refs column after ref h t = (h.0, h.1, h.2 ++ ref ∷ [], ap (λ r. r ++ ref ∷ []) h.3, h.4, takes_push h.0 columns between h.2 column after ref h.5 t)
 
--- the columns below a place are taken
-pub record TakenTo (before : GateList) (columns : List (List Bit3)) (i : ℕ) (between : GateList) (refs : List Ref) : Type 0 where
-  pub takes : TakesAll before (take i columns) between refs
-  pub ok : IsGateList between
-  pub inputs : between.inputs ≡ before.inputs
-  pub few : length between.gates ≤ length before.gates + 576 * i
-
-pub taken_none : (before : GateList) → IsGateList before → (columns : List (List Bit3)) → TakenTo before columns 0 before []
-taken_none before ok columns = record { takes = (refl, refl); ok = ok; inputs = refl; few = omega arith }
-
-pub taken_more : (before : GateList) (columns : List (List Bit3)) (i : ℕ) (between : GateList) (refs : List Ref) → TakenTo before columns i between refs → 1 ≤ before.inputs → before.inputs ≤ 8 → i < length columns →
-    (column : List Bit3) → column ≡ slice_index_or columns i column → IsEncodable before.inputs column → (after : GateList) (ref : Ref) → Takes between column after ref → TakenTo before columns (i + 1) after (refs ++ ref ∷ [])
-taken_more before columns i between refs h some eight l column is enc after ref t =
-    let one = taken between column h.ok (omega (arith, h.inputs)) (omega (arith, h.inputs)) (subst (λ n. IsEncodable n column) (sym h.inputs) enc) after ref t in
+-- the next column after those below a place
+pub takes_next : (before : GateList) (columns : List (List Bit3)) (i : ℕ) (between : GateList) (refs : List Ref) → TakesAll before (take i columns) between refs → i < length columns →
+    (column : List Bit3) → column ≡ slice_index_or columns i column → (after : GateList) (ref : Ref) → Takes between column after ref → TakesAll before (take (i + 1) columns) after (refs ++ ref ∷ [])
+takes_next before columns i between refs h l column is after ref t =
     let longer : take (i + 1) columns ≡ take i columns ++ column ∷ [] = take_more columns i column l ∙ ap (λ c. take i columns ++ c ∷ []) (sym is) in
-    record {
-      takes = subst (λ cs. TakesAll before cs after (refs ++ ref ∷ [])) (sym longer) (takes_push before (take i columns) between refs column after ref h.takes t);
-      ok = one.gates;
-      inputs = one.extends.inputs ∙ h.inputs;
-      few = omega (arith, one.few, h.few);
-    }
-
-pub taken_all : (before : GateList) (columns : List (List Bit3)) (i : ℕ) (between : GateList) (refs : List Ref) → TakenTo before columns i between refs → length columns ≤ i → TakesAll before columns between refs
-taken_all before columns i between refs h l = subst (λ cs. TakesAll before cs between refs) (take_all i columns l) h.takes
+    subst (λ cs. TakesAll before cs after (refs ++ ref ∷ [])) (sym longer) (takes_push before (take i columns) between refs column after ref h t)
 
 -- ---- all columns
 
@@ -413,32 +387,29 @@ over_stays m n l (Signal k negated) h = omega (arith, h)
 pub record AllTaken (before : GateList) (columns : List (List Bit3)) (after : GateList) (refs : List Ref) : Type 0 where
   pub extends : Extends before after
   pub gates : IsGateList after
-  pub few : length after.gates ≤ length before.gates + 576 * length columns
   pub one_each : length refs ≡ length columns
   pub over : All (IsRefOver (signal_count after)) refs
   pub agrees : (c : ℕ) (column : List Bit3) (ref : Ref) → slice_get columns c ≡ Some column → slice_get refs c ≡ Some ref → RefAgrees after (numbers (length column)) column ref
 
-pub all_taken : (before : GateList) → IsGateList before → 1 ≤ before.inputs → before.inputs ≤ 8 → (columns : List (List Bit3)) → All (IsEncodable before.inputs) columns →
+pub all_taken : (before : GateList) → IsGateList before → 1 ≤ before.inputs → (columns : List (List Bit3)) → All (IsEncodable before.inputs) columns →
     (after : GateList) (refs : List Ref) → TakesAll before columns after refs → AllTaken before columns after refs
-all_taken before ok some eight [] enc after refs h =
+all_taken before ok some [] enc after refs h =
     subst (λ g. AllTaken before [] g refs) (sym h.0) (subst (AllTaken before [] before) (sym h.1) (record {
       extends = extends_self before;
       gates = ok;
-      few = omega arith;
       one_each = refl;
       over = λ k d l. absurd (omega arith);
       agrees = λ c column ref x y. cc;
     }))
-all_taken before ok some eight (column ∷ columns) enc after refs h =
+all_taken before ok some (column ∷ columns) enc after refs h =
     let between = h.0 in
     let ref = h.1 in
     let rest = h.2 in
-    let one = taken before column ok some eight (enc 0 column (omega arith)) between ref h.4 in
-    let others = all_taken between one.gates (omega (arith, one.extends.inputs)) (omega (arith, one.extends.inputs)) columns (λ k d l. subst (λ n. IsEncodable n (slice_index_or columns k d)) (sym one.extends.inputs) (enc (suc k) d (omega arith))) after rest h.5 in
+    let one = taken before column ok some (enc 0 column (omega arith)) between ref h.4 in
+    let others = all_taken between one.gates (omega (arith, one.extends.inputs)) columns (λ k d l. subst (λ n. IsEncodable n (slice_index_or columns k d)) (sym one.extends.inputs) (enc (suc k) d (omega arith))) after rest h.5 in
     subst (AllTaken before (column ∷ columns) after) (sym h.3) (record {
       extends = extends_trans before between after one.extends others.extends;
       gates = others.gates;
-      few = omega (arith, one.few, others.few);
       one_each = omega (arith, others.one_each);
       over = over_all between after ref rest (over_stays (signal_count between) (signal_count after) (extends-count between after others.extends) ref one.over) others.over;
       agrees = agree_all between after ref rest (agrees_stays between after others.extends (numbers (length column)) column ref one.over one.agrees) others.agrees;
@@ -479,10 +450,10 @@ encodable n bits few enough columns h k d l =
       within = omega (arith, o.entries);
     }
 
-pub whole_taken : (n bits : ℕ) → 1 ≤ bits → bits ≤ 8 → n ≤ 64 → n ≤ 2 ^ bits → (columns : List (List Bit3)) → All (IsOpenColumn n) columns →
+pub whole_taken : (n bits : ℕ) → 1 ≤ bits → n ≤ 64 → n ≤ 2 ^ bits → (columns : List (List Bit3)) → All (IsOpenColumn n) columns →
     (start : GateList) → start ≡ record { inputs = bits; gates = [] } → (after : GateList) (refs : List Ref) → TakesAll start columns after refs → AllTaken (record { inputs = bits; gates = [] }) columns after refs
-whole_taken n bits some eight few enough columns h start is after refs t =
-    all_taken (record { inputs = bits; gates = [] }) tt some eight columns (encodable n bits few enough columns h) after refs (subst (λ g. TakesAll g columns after refs) is t)
+whole_taken n bits some few enough columns h start is after refs t =
+    all_taken (record { inputs = bits; gates = [] }) tt some columns (encodable n bits few enough columns h) after refs (subst (λ g. TakesAll g columns after refs) is t)
 
 pub whole_serves : (n bits : ℕ) (columns : List (List Bit3)) → All (IsOpenColumn n) columns → (after : GateList) (refs : List Ref) → AllTaken (record { inputs = bits; gates = [] }) columns after refs →
     (codes : List ℕ) → codes ≡ numbers n → ServesColumns columns (record { codes = codes; gates = after; refs = refs })

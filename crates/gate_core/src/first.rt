@@ -47,7 +47,7 @@ pub fn first_encode(
     requires some { 1 ≤ n }
     requires few { n ≤ 64 }
     requires enough { n ≤ 2 ^ bits }
-    requires few_classes { length classes.now ≤ 16384 }
+    requires few_classes { length classes.now ≤ 16777216 }
     requires classes { All (IsOpenColumn n) classes.now }
     ensures first { IfOk result (λ e. IsFirstEncoding n bits classes.now (record { codes = e.codes.items; gates = e.gates; refs = e.refs.items })) }
     ensures codes { IfOk result (λ e. (e.codes.items ≡ numbers n) × AreCodes bits n e.codes.items) }
@@ -79,7 +79,7 @@ fn codes_below(alloc: Global, count: u8) -> Result<Vec<u8>, Memory>
 fn take_all(alloc: Global, signals: &mut Signals, columns: &[Column]) -> Result<Vec<Ref>, Memory>
     requires encodable { All (IsEncodable signals.old.inputs) columns.now }
     requires inputs { (1 ≤ signals.old.inputs) × (signals.old.inputs ≤ 8) }
-    requires few { length columns.now ≤ 16384 }
+    requires few { length columns.now ≤ 16777216 }
     requires no_gate { signals.old.gates ≡ [] }
     ensures { IfOk result (λ refs. TakesAll signals.old columns.now signals.new refs.items) }
 {
@@ -93,7 +93,7 @@ fn take_all(alloc: Global, signals: &mut Signals, columns: &[Column]) -> Result<
 /// A reference for a column, for which gates are put to the list.
 fn take_column(alloc: Global, signals: &mut Signals, column: &Column) -> Result<Ref, Memory>
     requires encodable { IsEncodable signals.old.inputs column.now }
-    requires room { length signals.old.gates < 2 ^ 24 }
+    requires room { length signals.old.gates < 2 ^ 30 }
     ensures { IfOk result (Takes signals.old column.now signals.new) }
 {
     let asked = asked_by(column);
@@ -116,7 +116,7 @@ fn by_minterms(alloc: Global, signals: &mut Signals, column: &Column) -> Result<
     requires inputs { 2 ≤ signals.old.inputs }
     requires few_inputs { signals.old.inputs ≤ 8 }
     requires encodable { IsEncodable signals.old.inputs column.now }
-    requires room { length signals.old.gates < 2 ^ 24 }
+    requires room { length signals.old.gates < 2 ^ 30 }
     ensures { IfOk result (IsMintermsRef signals.old column.now signals.new) }
 {
     let (scenarios, negated) = smaller_set(alloc, column)?;

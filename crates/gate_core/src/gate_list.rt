@@ -1,5 +1,6 @@
-ghost use Rattle.std.specs.Prelude.{◌≡◌, ◌+◌, ◌-◌, ◌<◌, ◌≤◌, ◌^◌, [], ◌∷◌, ◌++◌, length, slice_get, Some, IfOk, OnOk, OnErr};
-ghost use Rattle.cpog_defs.specs.Gates.{IsGateList, signal_count, signal_values, gate_value};
+ghost use Rattle.std.specs.Prelude.{◌≡◌, ◌+◌, ◌-◌, ◌<◌, ◌≤◌, ◌^◌, [], ◌∷◌, ◌++◌, length, take, slice_get, Some, IfOk, OnOk, OnErr};
+ghost use Rattle.cpog_defs.specs.Codes.{word_bits};
+ghost use Rattle.cpog_defs.specs.Gates.{IsGateList, signal_count, signal_values, gate_value, with_gates};
 
 use cpog_base::Memory;
 use cpog_defs::types::Gate;
@@ -124,12 +125,29 @@ impl GateList {
         ensures { out.new ≡ signal_values self.now word }
     {
         let inputs = usize::from(self.inputs());
-        for i in 0..inputs {
-            out[i] = (word >> i) & 1 == 1;
-        }
+        write_bits(word, &mut out[..inputs]);
+        self.write_gates(out);
+    }
+
+    /// Writes the values of the gates' signals behind those of the inputs.
+    fn write_gates(&self, out: &mut [bool])
+        requires { length out.old ≡ signal_count self.now }
+        ensures { out.new ≡ with_gates self.now.gates (take self.now.inputs out.old) }
+    {
+        let inputs = usize::from(self.inputs());
         for (g, gate) in self.gates().iter().enumerate() {
             out[inputs + g] = table_value(gate.table, out[gate.j as usize], out[gate.k as usize]);
         }
+    }
+}
+
+/// Writes as many bits of a word as there is place for, the lowest first.
+fn write_bits(word: u8, out: &mut [bool])
+    requires { length out.old ≤ 8 }
+    ensures { out.new ≡ word_bits word (length out.old) }
+{
+    for (i, bit) in out.iter_mut().enumerate() {
+        *bit = (word >> i) & 1 == 1;
     }
 }
 

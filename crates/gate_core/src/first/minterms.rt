@@ -27,7 +27,7 @@ pub(crate) fn sum_of_minterms(
     requires some { 1 ≤ length scenarios.now }
     requires few { length scenarios.now ≤ 64 }
     requires differ { AllDiffer signals.old.inputs scenarios.now }
-    requires room { length signals.old.gates < 2 ^ 24 }
+    requires room { length signals.old.gates < 2 ^ 30 }
     ensures { IfOk result (λ number. first.sum_of_minterms signals.old scenarios.now ≡ record { gates = signals.new; signal = number }) }
 {
     let numbers = minterms(alloc, signals, scenarios)?;
@@ -40,7 +40,7 @@ fn minterms(alloc: Global, signals: &mut Signals, scenarios: &[u8]) -> Result<Ve
     requires inputs { 2 ≤ signals.old.inputs }
     requires few_inputs { signals.old.inputs ≤ 8 }
     requires few { length scenarios.now ≤ 64 }
-    requires room { length signals.old.gates < 2 ^ 24 }
+    requires room { length signals.old.gates < 2 ^ 30 }
     ensures { IfOk result (λ numbers. first.minterms signals.old scenarios.now ≡ record { gates = signals.new; signals = numbers.items }) }
 {
     let mut numbers = Vec::with_capacity(alloc, scenarios.len())?;
@@ -53,7 +53,7 @@ fn minterms(alloc: Global, signals: &mut Signals, scenarios: &[u8]) -> Result<Ve
 /// Puts the minterm of a scenario to the list, and answers the number of its signal.
 fn minterm(signals: &mut Signals, s: u8) -> Result<u32, Memory>
     requires inputs { 2 ≤ signals.old.inputs }
-    requires room { length signals.old.gates < 2 ^ 30 }
+    requires room { length signals.old.gates < 2 ^ 31 }
     ensures { IfOk result (λ number. first.minterm signals.old s (signals.old.inputs - 2) ≡ record { gates = signals.new; signal = number }) }
 {
     let further = signals.inputs() - 2;
@@ -77,7 +77,7 @@ fn joined(signals: &mut Signals, one: u32, others: &[u32]) -> Result<u32, Memory
     requires joinable { CanJoinAll signals.old one others.now }
     requires few { length others.now ≤ 64 }
     requires few_inputs { signals.old.inputs ≤ 8 }
-    requires room { length signals.old.gates < 2 ^ 30 }
+    requires room { length signals.old.gates < 2 ^ 31 }
     ensures { IfOk result (λ number. first.joined (record { gates = signals.old; signal = one }) others.now ≡ record { gates = signals.new; signal = number }) }
 {
     let mut number = one;

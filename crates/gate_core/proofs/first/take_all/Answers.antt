@@ -1,28 +1,37 @@
-use Rattle.std.proofs.Common.{◌+◌, length, sym, ap, subst, arith}
+use Rattle.std.proofs.Common.{◌+◌, take, refl, sym, subst, arith}
+use Rattle.std.proofs.lemmas.List.{length-take, take_all}
+use Rattle.std.proofs.lemmas.List.Elements.{All-take}
 use Rattle.cpog_defs.specs.Gates.{AreGatesFrom}
+use Rattle.gate_core.specs.First.{TakesAll}
 use Rattle.gate_core.specs.Words.{IsEncodable}
-use Rattle.gate_core.proofs.TakeLemmas.{TakenTo, taken_none, taken_more, taken_all}
+use Rattle.gate_core.proofs.TakeLemmas.{takes_next, all_taken}
+use Rattle.gate_core.proofs.BoundLemmas.{few_in_all}
 use Rattle.gate_core.proofs.first.take_all.Goals as goal
 
 pub loop-column-init : goal.loop-column-init
-loop-column-init c =
-    subst (TakenTo c.args.signals.now c.args.columns.now 0 c.args.signals.now) (sym c.in_ok-refs.ensures.items)
-    (taken_none c.args.signals.now (subst (AreGatesFrom c.args.signals.now.inputs) (sym c.requires.no_gate) tt) c.args.columns.now)
+loop-column-init c = (refl, c.in_ok-refs.ensures.items)
 
 pub take_column-requires-clause-encodable : goal.take_column-requires-clause-encodable
 take_column-requires-clause-encodable c =
-    subst (λ n. IsEncodable n c.column-item.result) (sym c.loop-column.invariant.inputs)
-    (subst (IsEncodable c.args.signals.now.inputs) (sym c.column-item.is) (c.requires.encodable c.loop-column.column-index c.column-item.result c.loop-column-test.true))
+    let before = c.args.signals.now in
+    let below = take c.loop-column.column-index c.args.columns.now in
+    let all = all_taken before (subst (AreGatesFrom before.inputs) (sym c.requires.no_gate) tt) c.requires.inputs.0 below (All-take (IsEncodable before.inputs) c.loop-column.column-index c.args.columns.now c.requires.encodable)
+    c.loop-column.signals c.loop-column.refs.items c.loop-column.invariant in
+    subst (λ n. IsEncodable n c.column-item.result) (sym all.extends.inputs)
+    (subst (IsEncodable before.inputs) (sym c.column-item.is) (c.requires.encodable c.loop-column.column-index c.column-item.result c.loop-column-test.true))
 
 pub take_column-requires-clause-room : goal.take_column-requires-clause-room
-take_column-requires-clause-room c = omega (arith, c.loop-column.invariant.few, ap length c.requires.no_gate, c.requires.few, c.loop-column-test.true)
+take_column-requires-clause-room c =
+    let before = c.args.signals.now in
+    let below = take c.loop-column.column-index c.args.columns.now in
+    few_in_all before c.requires.no_gate c.requires.inputs.0 c.requires.inputs.1 below (All-take (IsEncodable before.inputs) c.loop-column.column-index c.args.columns.now c.requires.encodable)
+    (omega (arith, c.requires.few, length-take c.loop-column.column-index c.args.columns.now)) c.loop-column.signals c.loop-column.refs.items c.loop-column.invariant
 
 pub loop-column-preserved : goal.loop-column-preserved
 loop-column-preserved c =
-    subst (TakenTo c.args.signals.now c.args.columns.now (c.loop-column.column-index + 1) c.take_column.new.signals) (sym c.in_ok-push.ensures.items)
-    (taken_more c.args.signals.now c.args.columns.now c.loop-column.column-index c.loop-column.signals c.loop-column.refs.items c.loop-column.invariant c.requires.inputs.0 c.requires.inputs.1 c.loop-column-test.true
-    c.column-item.result c.column-item.is (subst (IsEncodable c.args.signals.now.inputs) (sym c.column-item.is) (c.requires.encodable c.loop-column.column-index c.column-item.result c.loop-column-test.true))
-    c.take_column.new.signals c.in_ok-take_column.field-0 c.in_ok-take_column.ensures)
+    subst (TakesAll c.args.signals.now (take (c.loop-column.column-index + 1) c.args.columns.now) c.take_column.new.signals) (sym c.in_ok-push.ensures.items)
+    (takes_next c.args.signals.now c.args.columns.now c.loop-column.column-index c.loop-column.signals c.loop-column.refs.items c.loop-column.invariant c.loop-column-test.true
+    c.column-item.result c.column-item.is c.take_column.new.signals c.in_ok-take_column.field-0 c.in_ok-take_column.ensures)
 
 pub returns : goal.returns
-returns c = taken_all c.args.signals.now c.args.columns.now c.loop-column.column-index c.loop-column.signals c.loop-column.refs.items c.loop-column.invariant c.loop-column-test.false
+returns c = subst (λ columns. TakesAll c.args.signals.now columns c.loop-column.signals c.loop-column.refs.items) (take_all c.loop-column.column-index c.args.columns.now c.loop-column-test.false) c.loop-column.invariant

@@ -1,16 +1,9 @@
-use Rattle.std.proofs.Common.{◌≡◌, ◌+◌, ◌<◌, false, [], ◌∷◌, ◌++◌, length, slice_index_or, slice_set, take, refl, sym, ap, subst, ◌∙◌, arith, add-one, get_or-take}
+use Rattle.std.proofs.Common.{◌≡◌, ◌+◌, ◌<◌, false, [], ◌∷◌, ◌++◌, length, slice_index_or, slice_set, take, refl, sym, ap, subst, ◌∙◌, arith, get_or-take}
 use Rattle.std.proofs.lemmas.List.{take_more, take_more_set}
-use Rattle.std.proofs.lemmas.Nat.Bits.{shr_and_one}
-use Rattle.cpog_defs.specs.Codes.{word_bits}
 use Rattle.cpog_defs.specs.Gates.{AreGatesFrom}
 use Rattle.cpog_defs.specs.declared.types.Gate.{Gate}
 use Rattle.gate_core.proofs.GateLemmas.{next_value, with_gates_push, gate_reads}
-use Rattle.gate_core.proofs.gate_list.GateList.eval.Goals as goal
-
-pub loop-i-preserved : goal.loop-i-preserved
-loop-i-preserved c =
-    let l : c.loop-i.i < length c.loop-i.out = omega arith in
-    take_more_set c.loop-i.out c.loop-i.i _ l ∙ rw (c.loop-i.invariant, add-one, shr_and_one) refl
+use Rattle.gate_core.proofs.gate_list.GateList.write_gates.Goals as goal
 
 pub bounds-out-gate : goal.bounds-out-gate
 bounds-out-gate c = let h = gate_reads _ _ c.loop-g.g (record { j = 0; k = 0; table = 0 }) (subst (AreGatesFrom c.args.self.now.inputs) (sym c.gates-gate-items.ensures.gates) c.gates-gate-items.ensures.earlier) c.loop-g-test.true in omega (arith, h.0, h.1, ap length c.gates-gate-items.ensures.gates)
@@ -36,4 +29,4 @@ loop-g-preserved c =
     ∙ take_more_set c.loop-g.out (before + g) c.table_value.result room
     ∙ ap (λ v. take (before + g) c.loop-g.out ++ v ∷ []) value
     ∙ ap (λ l. l ++ next_value gate l ∷ []) c.loop-g.invariant
-    ∙ sym (rw (take_more items g d c.loop-g-test.true) (with_gates_push (take g items) gate (word_bits c.args.word before)))
+    ∙ sym (rw (take_more items g d c.loop-g-test.true) (with_gates_push (take g items) gate (take before c.args.out.now)))
