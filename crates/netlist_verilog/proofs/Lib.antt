@@ -9,6 +9,9 @@ pub mod ConditionRowLemmas
 pub mod RequestRowLemmas
 pub mod RowLemmas
 pub mod LawLemmas
+pub mod FormulaLemmas
+pub mod OnceLemmas
+pub mod DriverLemmas
 pub mod OwnLemmas
 pub mod CallingLemmas
 pub mod KeywordLemmas

@@ -1,6 +1,6 @@
 -- What is proved of modules.
-use Rattle.std.specs.Prelude.{◌≡◌, ◌≢◌, ℕ, ◌<◌, Bool, List, ◌++◌, length}
-use Rattle.std.specs.List.{AllByRecursion}
+use Rattle.std.specs.Prelude.{◌≡◌, ◌≢◌, ℕ, ◌<◌, Bool, List, ◌++◌, length, map, take, slice_index_or}
+use Rattle.std.specs.List.{AllByRecursion, AllPairs, Contains}
 use Rattle.std.specs.FinSet as set
 use Rattle.cpog_defs.specs.Codes.{bit}
 use Rattle.cpog_defs.specs.Gates.{gate_value}
@@ -65,6 +65,26 @@ pub record HasItsWires (m : ModuleValue) : Type 0 where
 
 abbrev pub ModulesHaveTheirWires : Type 0
 ModulesHaveTheirWires = (m : ModuleValue) → IsModule m → HasItsWires m
+
+-- what the equation at a place may read: the inputs, and the inner wires that the equations before it assign
+abbrev pub known_at : Netlist → ℕ → List Wire
+known_at n i = input_wires n ++ take i (inner_wires n)
+
+-- the equation reads, and its comment names, these wires alone
+pub record SpeaksOf (wires : List Wire) (e : Equation) : Type 0 where
+  pub read : ReadsOnly (Contains wires) e.formula
+  pub named : NamesOnly (Contains wires) e.comment
+
+-- each wire is declared once; the inner ones and the outputs are assigned, once each and in this order, and no input is;
+-- each equation speaks of inputs and earlier inner wires alone
+pub record HasOneDriverEach (m : ModuleValue) : Type 0 where
+  pub declared_once : AllPairs (λ w z. w ≢ z) (input_wires m.netlist ++ (output_wires m.netlist ++ inner_wires m.netlist))
+  pub assigned : map (λ e. e.wire) (equations m.netlist) ≡ inner_wires m.netlist ++ output_wires m.netlist
+  pub reads_known : (i : ℕ) (d : Equation) → i < length (equations m.netlist) → SpeaksOf (known_at m.netlist i) (slice_index_or (equations m.netlist) i d)
+
+-- each wire of a module has one driver
+abbrev pub WiresHaveOneDriver : Type 0
+WiresHaveOneDriver = (m : ModuleValue) → IsModule m → HasOneDriverEach m
 
 -- the text of a formula over the wires of a module is read as this formula
 abbrev pub FormulasAreRead : Type 0

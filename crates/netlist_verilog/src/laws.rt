@@ -1,4 +1,4 @@
-ghost use Rattle.netlist_verilog.specs.Laws.{FormulasAreTables, EquationsGiveOutputs, EquationsSettle, LinesHoldNoFeed, TextTellsModule, WiresAreTold, ModulesHaveTheirWires, FormulasAreRead, ReadingIsOne, EquationsAreRead, AssignmentIsOne};
+ghost use Rattle.netlist_verilog.specs.Laws.{FormulasAreTables, EquationsGiveOutputs, EquationsSettle, LinesHoldNoFeed, TextTellsModule, WiresAreTold, ModulesHaveTheirWires, WiresHaveOneDriver, FormulasAreRead, ReadingIsOne, EquationsAreRead, AssignmentIsOne};
 
 /// The value of a gate's formula is the gate's value by its table.
 pub fn formulas_are_tables()
@@ -33,6 +33,12 @@ pub fn wires_are_told()
 /// What a module declares, assigns and reads are wires of it.
 pub fn modules_have_their_wires()
     ensures { ModulesHaveTheirWires }
+{}
+
+/// A module declares each wire once. It assigns each inner wire and each output once and no input, and each equation reads only inputs and
+/// inner wires that are assigned before it.
+pub fn wires_have_one_driver()
+    ensures { WiresHaveOneDriver }
 {}
 
 /// The text of a formula over the wires of a module is read as this formula, by the grammar of Verilog's expressions.
