@@ -1,5 +1,5 @@
 -- Whether each parameter that a condition names is there.
-use Rattle.std.specs.Prelude.{◌≡◌, refl, ℕ, ◌+◌, Bool, true, false, cond, not, nat_lt, ◌&&◌, ◌||◌, List, [], ◌∷◌, length, Some, None, is_some}
+use Rattle.std.specs.Prelude.{◌≡◌, refl, ℕ, ◌+◌, Bool, true, false, cond, not, nat_lt, ◌&&◌, ◌||◌, List, [], ◌∷◌, length, Option, Some, None, is_some, IfSome}
 use Rattle.std.specs.List.{list_all, list_any, flat_map, position_or_len}
 use Rattle.std.specs.Str.{bytes_eq}
 use Rattle.std.proofs.Common.{suc, ap, ◌∙◌, sym, arith}
@@ -51,3 +51,8 @@ knows-Param params name = alone (has_text params name) ∙ sym (is_some-place pa
     alone : (b : Bool) → (b && true) ≡ b
     alone true = refl
     alone false = refl
+
+-- what follows for a value, follows for one that may be there
+pub on_some : {X : Type 0} {P Q : X → Type 0} (o : Option X) → ((x : X) → P x → Q x) → IfSome o P → IfSome o Q
+on_some None f h = h
+on_some (Some x) f h = f x h
