@@ -4,13 +4,14 @@ use Rattle.std.proofs.Common.{zero, suc, ap, ◌∙◌, sym, subst, arith, inl, 
 use Rattle.std.specs.Bool.{MatchBool}
 use Rattle.std.specs.List.{AllByRecursion}
 use Rattle.std.specs.Map.{lookup}
-use Rattle.std.proofs.lemmas.Bool.{both_ways, cases_Bool, cases_eq, and_parts, and_from, or_cases, ne_eqb}
+use Rattle.std.proofs.Math.Bool.{and-false}
+use Rattle.std.proofs.lemmas.Bool.{both_ways, cases_Bool, cases_eq, cases_lt, and_parts, and_from, or_cases, ne_eqb}
 use Rattle.cpog_defs.specs.Codes.{bit}
 use Rattle.cpog_defs.specs.Orders.{any_below}
 use Rattle.pg_algebra.specs.declared.table.Table.{Table}
 use Rattle.pg_algebra.specs.Tables.{flip, with_param}
 use Rattle.pg_algebra.proofs.TableLemmas.{no_ones, bit-and, xor_differs, xor_alike}
-use Rattle.pg_algebra.proofs.ValuationLaws.{flip-one, flip-below, set_is_same, set_is_flip}
+use Rattle.pg_algebra.proofs.ValuationLaws.{flip-one, set_is_same, set_is_flip}
 use Rattle.pg_algebra.proofs.GraphLaws.{same_graph}
 use Rattle.std.proofs.lemmas.Bool.Decides.{nat_tests}
 use Rattle.pg_normal.specs.Instances.{Agrees, ChangesGraph, IsUnbound}
@@ -102,21 +103,14 @@ arc_has_ends f u v n is h held = ends-entries f f.arcs u v n h is.ends held
 pub vertex_past : (count : ℕ) (f : Form) (v n : ℕ) → IsBelow count f → count ≤ v → bit (vertex_table f v) n ≡ false
 vertex_past count f v n below past = ap (λ t. bit t n) (no_vertex count v f.vertices below past) ∙ no_ones n
 
-pub arc_past : (count : ℕ) (f : Form) (u v n : ℕ) → IsForm f → IsBelow count f → n < 64 → (count ≤ u) ⊎ (count ≤ v) → bit (arc_table f u v) n ≡ false
-arc_past count f u v n is below h past = elim (cases_Bool (bit (arc_table f u v) n)) [
-  | inl held ↦ absurd (ends past (arc_has_ends f u v n is h held))
-  | inr none ↦ none
+vertex_below : (count : ℕ) (f : Form) (v n : ℕ) → IsBelow count f → bit (vertex_table f v) n ≡ true → v < count
+vertex_below count f v n below held = elim (cases_lt v count) [
+  | inl lt ↦ lt
+  | inr past ↦ absurd (both_ways _ (vertex_past count f v n below past) held)
 ]
-  where
-    ends : (count ≤ u) ⊎ (count ≤ v) → (bit (vertex_table f u) n ≡ true) × (bit (vertex_table f v) n ≡ true) → ⊥
-    ends (inl first) two = both_ways _ (vertex_past count f u n below first) two.0
-    ends (inr second) two = both_ways _ (vertex_past count f v n below second) two.1
 
-pub vertex_past_keeps : (count : ℕ) (f : Form) (v k among : ℕ) → IsBelow count f → count ≤ v → Keeps (vertex_table f v) k among
-vertex_past_keeps count f v k among below past n h chosen = vertex_past count f v n below past ∙ sym (vertex_past count f v (flip n k) below past)
-
-pub arc_past_keeps : (count : ℕ) (f : Form) (u v k among : ℕ) → k < 6 → IsForm f → IsBelow count f → (count ≤ u) ⊎ (count ≤ v) → Keeps (arc_table f u v) k among
-arc_past_keeps count f u v k among small is below past n h chosen = arc_past count f u v n is below h past ∙ sym (arc_past count f u v (flip n k) is below (flip-below n k small h) past)
+pub arc_ends_below : (count : ℕ) (f : Form) (u v n : ℕ) → IsForm f → IsBelow count f → n < 64 → bit (arc_table f u v) n ≡ true → (u < count) × (v < count)
+arc_ends_below count f u v n is below h held = let ends = arc_has_ends f u v n is h held in (vertex_below count f u n below ends.0, vertex_below count f v n below ends.1)
 
 -- ---- bindings
 
@@ -203,21 +197,11 @@ vertex_added T v w old new here is before = elim (cases_Bool (w == v)) [
 
 pub vertex_skipped : (T : ℕ → Bool) (v w : ℕ) (old : Bool) → T v ≡ false → old ≡ (nat_lt w v && T w) → old ≡ (nat_lt w (v + 1) && T w)
 vertex_skipped T v w old none before = elim (cases_Bool (w == v)) [
-  | inl same ↦ before ∙ ap (λ b. nat_lt w v && b) (ap T (eqb-true w v same) ∙ none) ∙ and_none (nat_lt w v) ∙ sym (ap (λ b. nat_lt w (v + 1) && b) (ap T (eqb-true w v same) ∙ none) ∙ and_none (nat_lt w (v + 1)))
+  | inl same ↦ before ∙ ap (λ b. nat_lt w v && b) (ap T (eqb-true w v same) ∙ none) ∙ and-false (nat_lt w v) ∙ sym (ap (λ b. nat_lt w (v + 1) && b) (ap T (eqb-true w v same) ∙ none) ∙ and-false (nat_lt w (v + 1)))
   | inr other ↦ before ∙ sym (ap (λ b. b && T w) (lt_next w v ∙ ap (λ b. b || nat_lt w v) other))
 ]
-  where
-    and_none : (b : Bool) → (b && false) ≡ false
-    and_none true = refl
-    and_none false = refl
 
 pub all_there : (lt there : Bool) → (lt ≡ true) ⊎ (there ≡ false) → (lt && there) ≡ there
 all_there true there h = refl
 all_there false there (inl e) = absurd (both_ways _ refl e)
 all_there false there (inr e) = sym e
-
-pub arcs_there : (same lt there old : Bool) → (lt ≡ true) ⊎ ((there ≡ false) × (same ≡ true → old ≡ false)) → cond (same && lt) there old ≡ cond same there old
-arcs_there false lt there old h = refl
-arcs_there true true there old h = refl
-arcs_there true false there old (inl e) = absurd (both_ways _ refl e)
-arcs_there true false there old (inr p) = p.1 refl ∙ sym p.0

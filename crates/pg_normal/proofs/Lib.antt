@@ -8,6 +8,7 @@ pub mod OverLemmas
 pub mod MakingLemmas
 pub mod PartialLemmas
 pub mod ChangeLemmas
+pub mod ListedLemmas
 pub mod NamedLemmas
 pub mod NamingLemmas
 pub mod WritingLemmas

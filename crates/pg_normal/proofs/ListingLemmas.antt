@@ -1,5 +1,5 @@
 -- From names in order to forms.
-use Rattle.std.specs.Prelude.{◌≡◌, refl, ℕ, ◌<◌, ◌≤◌, ◌+◌, ◌*◌, ◌%◌, ◌^◌, ◌==◌, Bool, true, false, map, ◌&&◌, ◌||◌, bit_or, List, [], ◌∷◌, ◌++◌, length, slice_get, Option, Some, None}
+use Rattle.std.specs.Prelude.{◌≡◌, refl, ℕ, ◌<◌, ◌≤◌, ◌+◌, ◌*◌, ◌%◌, ◌^◌, ◌==◌, Bool, true, false, map, ◌&&◌, ◌||◌, bit_or, List, [], ◌∷◌, ◌++◌, length, slice_get}
 use Rattle.std.specs.List.{AllByRecursion, list_all, flat_map}
 use Rattle.std.specs.Int.{w8}
 use Rattle.std.proofs.Common.{ap, ◌∙◌, sym, subst, drop, arith, inl, inr, append-nil, length-append}
@@ -37,6 +37,7 @@ use Rattle.pg_normal.specs.Known.{IsKnown, graphs_known, orders_known}
 use Rattle.pg_normal.specs.Normals.{IsBound, Before, none_before, with_statement, params_in, StatementNormals, AreNormals}
 use Rattle.pg_normal.proofs.RowLemmas.{bit-none}
 use Rattle.pg_normal.proofs.NamingLemmas.{next}
+use Rattle.pg_normal.proofs.RowLemmas.{some_at}
 
 pub left_empty : {X : Type 0} (xs ys : List X) → xs ++ ys ≡ [] → xs ≡ []
 left_empty [] ys h = refl
@@ -112,16 +113,17 @@ and_one a false c h = refl
 
 -- ---- the line at hand
 
+pub line_at : (ss : List Numbered) (i : ℕ) (s : Statement) → IsSomeAnd (slice_get ss i) (λ n. s ≡ n.statement) → (n : Numbered) × (s ≡ n.statement) × (drop i ss ≡ n ∷ drop (i + 1) ss)
+line_at ss i s at =
+    let n = some_at (λ n. s ≡ n.statement) (slice_get ss i) at in
+    (n.0, n.2, next ss i n.0 n.0 (slice_get_within ss i n.0 n.1) (sym (get_or_from_slice_get ss i n.0 n.0 n.1)))
+
 pub line_without_faults : (scope : Scope) (ss : List Numbered) (i : ℕ) (s : Statement) → IsSomeAnd (slice_get ss i) (λ n. s ≡ n.statement) → faults_from scope (drop i ss) ≡ []
     → (line : ℕ) × (statement_faults line scope s ≡ []) × (faults_from (scope_after scope s) (drop (i + 1) ss) ≡ [])
-line_without_faults scope ss i s at none = go (slice_get ss i) refl at
-  where
-    go : (o : Option Numbered) → slice_get ss i ≡ o → IsSomeAnd o (λ n. s ≡ n.statement) → (line : ℕ) × (statement_faults line scope s ≡ []) × (faults_from (scope_after scope s) (drop (i + 1) ss) ≡ [])
-    go None is h = absurd h
-    go (Some n) is h =
-        let split : statement_faults n.line scope n.statement ++ faults_from (scope_after scope n.statement) (drop (i + 1) ss) ≡ [] =
-        sym (ap (faults_from scope) (next ss i n n (slice_get_within ss i n is) (sym (get_or_from_slice_get ss i n n is)))) ∙ none in
-        (n.line, ap (statement_faults n.line scope) h ∙ left_empty _ _ split, ap (λ t. faults_from (scope_after scope t) (drop (i + 1) ss)) h ∙ right_empty (statement_faults n.line scope n.statement) _ split)
+line_without_faults scope ss i s at none =
+    let l = line_at ss i s at in
+    let split : statement_faults l.0.line scope l.0.statement ++ faults_from (scope_after scope l.0.statement) (drop (i + 1) ss) ≡ [] = sym (ap (faults_from scope) l.2) ∙ none in
+    (l.0.line, ap (statement_faults l.0.line scope) l.1 ∙ left_empty _ _ split, ap (λ t. faults_from (scope_after scope t) (drop (i + 1) ss)) l.1 ∙ right_empty (statement_faults l.0.line scope l.0.statement) _ split)
 
 -- ---- parameters of all lines
 
@@ -183,13 +185,6 @@ at_first count f none file known is = subst (λ k. At count f k 0 []) (sym is) (
 
 pub at_last : (count : ℕ) (f : Contents) (known : Known) (i : ℕ) (xs : List Normal) → At count f known i xs → length f.statements ≤ i → AreNormals (params_in f) none_before f.statements xs
 at_last count f known i xs at le = subst (AreNormals (params_in f) none_before f.statements) (append-nil xs) (at.forms [] (subst (λ ss. AreNormals (params_in f) at.before ss []) (sym (drop_all i f.statements le)) refl))
-
-pub line_at : (ss : List Numbered) (i : ℕ) (s : Statement) → IsSomeAnd (slice_get ss i) (λ n. s ≡ n.statement) → (n : Numbered) × (s ≡ n.statement) × (drop i ss ≡ n ∷ drop (i + 1) ss)
-line_at ss i s at = go (slice_get ss i) refl at
-  where
-    go : (o : Option Numbered) → slice_get ss i ≡ o → IsSomeAnd o (λ n. s ≡ n.statement) → (n : Numbered) × (s ≡ n.statement) × (drop i ss ≡ n ∷ drop (i + 1) ss)
-    go None is h = absurd h
-    go (Some n) is h = (n, h, next ss i n n (slice_get_within ss i n is) (sym (get_or_from_slice_get ss i n n is)))
 
 module _ (count : ℕ) (f : Contents) (known : Known) (i : ℕ) (xs : List Normal) (at : At count f known i xs) (s : Statement) (at_s : IsSomeAnd (slice_get f.statements i) (λ n. s ≡ n.statement)) where
   line : (n : Numbered) × (s ≡ n.statement) × (drop i f.statements ≡ n ∷ drop (i + 1) f.statements)

@@ -3,6 +3,8 @@ use Rattle.std.specs.Prelude.{◌≡◌, ◌⊎◌, refl, ℕ, ◌<◌, ◌^◌,
 use Rattle.std.proofs.Common.{zero, suc, ap, ap₂, ◌∙◌, sym, subst, arith, inl, inr, eqb-true, take, drop}
 use Rattle.std.specs.List.{AllByRecursion, IsDistinct, list_any}
 use Rattle.std.specs.Map.{lookup}
+use Rattle.std.proofs.Math.Bool.{or-false, or-true}
+use Rattle.std.proofs.lemmas.Bool.Decides.{nat_tests}
 use Rattle.std.proofs.lemmas.Bool.{both_ways, cases_Bool, cases_eq, eqb-false}
 use Rattle.std.proofs.lemmas.List.{take_more, map-append, append_assoc, append-nil, take-append-drop}
 use Rattle.std.proofs.lemmas.List.Elements.{filter-append}
@@ -46,9 +48,7 @@ none_below p (suc w) h n lt = elim (cases_eq n w) [
 ]
 
 same_digit : (a : ℕ) → a < 2 → (a == 1) ≡ false → a ≡ 0
-same_digit zero h e = refl
-same_digit (suc zero) h e = absurd (both_ways _ e refl)
-same_digit (suc (suc a)) h e = absurd (omega arith)
+same_digit a h e = grind (arith, nat_tests)
 
 -- a word is 1 under some valuation where it is not 0
 pub sometimes-zero : (w : ℕ) → w ≡ 0 → sometimes (bit w) ≡ false
@@ -94,11 +94,7 @@ module _ (order : List ℕ) (i x : ℕ) (at : slice_get order i ≡ Some x) wher
       whole = sym (append_assoc (take i order) (x ∷ []) (drop (i + 1) order)) ∙ ap (λ vs. vs ++ drop (i + 1) order) (sym next) ∙ take-append-drop (i + 1) order
 
   has-next : (v : ℕ) → has (take (i + 1) order) v ≡ (has (take i order) v || (v == x))
-  has-next v = ap (λ vs. has vs v) next ∙ list_any-append (λ w. v == w) (take i order) (x ∷ []) ∙ ap (λ b. has (take i order) v || b) (none (v == x))
-    where
-      none : (b : Bool) → (b || false) ≡ b
-      none true = refl
-      none false = refl
+  has-next v = ap (λ vs. has vs v) next ∙ list_any-append (λ w. v == w) (take i order) (x ∷ []) ∙ ap (λ b. has (take i order) v || b) (or-false (v == x))
 
   pub keys_added : (p : ℕ → Bool) (es : List (ℕ × Table)) (t : Table) → p x ≡ true → map (λ e. e.0) es ≡ filter p (take i order) → map (λ e. e.0) (es ++ (x, t) ∷ []) ≡ filter p (take (i + 1) order)
   keys_added p es t passes so_far =
@@ -118,17 +114,9 @@ module _ (order : List ℕ) (i x : ℕ) (at : slice_get order i ≡ Some x) wher
   pub table_added : (tables : List ℕ) (old new w v : ℕ) → w ≡ slice_index tables x → new ≡ cond (v == x) w old → old ≡ cond (has (take i order) v) (slice_index tables v) 0
       → new ≡ cond (has (take (i + 1) order) v) (slice_index tables v) 0
   table_added tables old new w v is after before = elim (cases_Bool (v == x)) [
-    | inl same ↦ after ∙ ap (λ b. cond b w old) same ∙ is ∙ ap (slice_index tables) (sym (eqb-true v x same)) ∙ sym (ap (λ b. cond b (slice_index tables v) 0) (has-next v ∙ ap (λ b. has (take i order) v || b) same ∙ always (has (take i order) v)))
-    | inr other ↦ after ∙ ap (λ b. cond b w old) other ∙ before ∙ sym (ap (λ b. cond b (slice_index tables v) 0) (has-next v ∙ ap (λ b. has (take i order) v || b) other ∙ none (has (take i order) v)))
+    | inl same ↦ after ∙ ap (λ b. cond b w old) same ∙ is ∙ ap (slice_index tables) (sym (eqb-true v x same)) ∙ sym (ap (λ b. cond b (slice_index tables v) 0) (has-next v ∙ ap (λ b. has (take i order) v || b) same ∙ or-true (has (take i order) v)))
+    | inr other ↦ after ∙ ap (λ b. cond b w old) other ∙ before ∙ sym (ap (λ b. cond b (slice_index tables v) 0) (has-next v ∙ ap (λ b. has (take i order) v || b) other ∙ or-false (has (take i order) v)))
   ]
-    where
-      always : (b : Bool) → (b || true) ≡ true
-      always true = refl
-      always false = refl
-
-      none : (b : Bool) → (b || false) ≡ b
-      none true = refl
-      none false = refl
 
   pub table_skipped : (tables : List ℕ) (old v : ℕ) → slice_index tables x ≡ 0 → old ≡ cond (has (take i order) v) (slice_index tables v) 0 → old ≡ cond (has (take (i + 1) order) v) (slice_index tables v) 0
   table_skipped tables old v zero_there before = table_added tables old old 0 v (sym zero_there) (same (cases_Bool (v == x))) before

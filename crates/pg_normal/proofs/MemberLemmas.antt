@@ -1,7 +1,7 @@
 -- What an expression has is what its members have.
-use Rattle.std.specs.Prelude.{◌≡◌, refl, ℕ, ◌<◌, ◌+◌, ◌&&◌, List, [], ◌∷◌, ◌++◌, length, IsTrue}
+use Rattle.std.specs.Prelude.{◌≡◌, ◌⊎◌, refl, ℕ, ◌<◌, ◌+◌, ◌&&◌, List, [], ◌∷◌, ◌++◌, length, IsTrue}
 use Rattle.std.specs.List.{list_all, flat_map}
-use Rattle.std.proofs.Common.{ap, ◌∙◌, sym, subst, get_or, drop}
+use Rattle.std.proofs.Common.{ap, ◌∙◌, sym, subst, get_or, drop, inl, inr}
 use Rattle.std.proofs.lemmas.Bool.{and_parts}
 use denote.Hole.Carrier.{hidden}
 use Rattle.cpog_base.specs.Names.{has_text}
@@ -37,15 +37,20 @@ pub appearing-When : (earlier : List ℕ → List ℕ) (c : Cond) (e : Expr) →
 unfolding hidden-the_row-Expr-0 hidden
 appearing-When earlier c e = refl
 
-pub appearing-Overlay : (earlier : List ℕ → List ℕ) (es : List Expr) → appearing earlier (Overlay (record { members = es })) ≡ flat_map (appearing earlier) es
+appearing-Overlay : (earlier : List ℕ → List ℕ) (es : List Expr) → appearing earlier (Overlay (record { members = es })) ≡ flat_map (appearing earlier) es
 unfolding hidden-the_row-Expr-1 hidden
 appearing-Overlay earlier [] = refl
 appearing-Overlay earlier (e ∷ es) = ap (λ vs. appearing earlier e ++ vs) (appearing-Overlay earlier es)
 
-pub appearing-Sequence : (earlier : List ℕ → List ℕ) (es : List Expr) → appearing earlier (Sequence (record { members = es })) ≡ flat_map (appearing earlier) es
+appearing-Sequence : (earlier : List ℕ → List ℕ) (es : List Expr) → appearing earlier (Sequence (record { members = es })) ≡ flat_map (appearing earlier) es
 unfolding hidden-the_row-Expr-1 hidden
 appearing-Sequence earlier [] = refl
 appearing-Sequence earlier (e ∷ es) = ap (λ vs. appearing earlier e ++ vs) (appearing-Sequence earlier es)
+
+-- whichever sign joins the members
+pub appearing-row : (earlier : List ℕ → List ℕ) (e : Expr) (es : List Expr) → (e ≡ Overlay (record { members = es })) ⊎ (e ≡ Sequence (record { members = es })) → flat_map (appearing earlier) es ≡ appearing earlier e
+appearing-row earlier e es (inl is) = sym (ap (appearing earlier) is ∙ appearing-Overlay earlier es)
+appearing-row earlier e es (inr is) = sym (ap (appearing earlier) is ∙ appearing-Sequence earlier es)
 
 pub with_numbers-append : (vs xs ys : List ℕ) → with_numbers vs (xs ++ ys) ≡ with_numbers (with_numbers vs xs) ys
 with_numbers-append vs [] ys = refl

@@ -1,8 +1,9 @@
 -- Faults of names, part by part.
-use Rattle.std.specs.Prelude.{◌≡◌, refl, ℕ, ◌<◌, ◌+◌, Bool, true, false, ◌&&◌, List, [], ◌∷◌, ◌++◌, map, length, slice_get, Option, Some, None, is_some}
+use Rattle.std.specs.Prelude.{◌≡◌, ◌⊎◌, refl, ℕ, ◌<◌, ◌+◌, false, List, [], ◌∷◌, ◌++◌, map, length, slice_get, Option, Some, None, is_some}
 use Rattle.std.specs.List.{flat_map}
-use Rattle.std.proofs.Common.{ap, ap₂, ◌∙◌, sym, subst, get_or, drop, suc, add-one}
+use Rattle.std.proofs.Common.{ap, ap₂, ◌∙◌, sym, subst, get_or, drop, suc, add-one, inl, inr}
 use Rattle.std.proofs.Math.Seq.{drop-cons}
+use Rattle.std.proofs.Math.Bool.{and-true}
 use Rattle.std.proofs.lemmas.Bool.{both_ways}
 use Rattle.std.proofs.lemmas.Grind.{flat_map-append}
 use Rattle.std.proofs.lemmas.List.Folds.{flat_map-map}
@@ -25,12 +26,8 @@ use Rattle.pg_normal.specs.declared.naming.NameFault.{NameFault}
 use Rattle.pg_normal.specs.declared.naming.NameFault.TheVariants as fault
 use Rattle.pg_normal.specs.Naming.{param_used, uses, unknown_param, unknown, expr_faults, statement_faults, scope_after, scope_from, faults_from, first, IsFirst}
 
-alone : (b : Bool) → (b && true) ≡ b
-alone true = refl
-alone false = refl
-
 pub has_place : (names : List (List ℕ)) (name : List ℕ) → is_some (place_of names name) ≡ has_text names name
-has_place names name = sym (knows-Param names name) ∙ alone (has_text names name)
+has_place names name = sym (knows-Param names name) ∙ and-true (has_text names name)
 
 -- ---- the first of more faults
 
@@ -65,11 +62,10 @@ cond_faults line params c = flat_map (unknown_param line params) (params_of c)
 pub faults-Not : (line : ℕ) (params : List (List ℕ)) (c : Cond) → cond_faults line params (Not c) ≡ cond_faults line params c
 faults-Not line params c = ap (flat_map (unknown_param line params)) (params_of-Not c)
 
-pub faults-And : (line : ℕ) (params : List (List ℕ)) (cs : List Cond) → cond_faults line params (And (record { members = cs })) ≡ flat_map (cond_faults line params) cs
-faults-And line params cs = ap (flat_map (unknown_param line params)) (params_of-And cs) ∙ flat_map-twice (unknown_param line params) params_of cs
-
-pub faults-Or : (line : ℕ) (params : List (List ℕ)) (cs : List Cond) → cond_faults line params (Or (record { members = cs })) ≡ flat_map (cond_faults line params) cs
-faults-Or line params cs = ap (flat_map (unknown_param line params)) (params_of-Or cs) ∙ flat_map-twice (unknown_param line params) params_of cs
+-- whichever sign joins them
+pub faults-conditions : (line : ℕ) (params : List (List ℕ)) (c : Cond) (cs : List Cond) → (c ≡ And (record { members = cs })) ⊎ (c ≡ Or (record { members = cs })) → flat_map (unknown_param line params) (flat_map params_of cs) ≡ cond_faults line params c
+faults-conditions line params c cs (inl is) = ap (flat_map (unknown_param line params)) (sym (ap params_of is ∙ params_of-And cs))
+faults-conditions line params c cs (inr is) = ap (flat_map (unknown_param line params)) (sym (ap params_of is ∙ params_of-Or cs))
 
 uses-When : (c : Cond) (e : Expr) → uses (When c e) ≡ map param_used (params_of c) ++ uses e
 unfolding hidden-the_row-Expr-0 hidden
@@ -89,11 +85,12 @@ pub faults-When : (line : ℕ) (scope : Scope) (c : Cond) (e : Expr) → expr_fa
 faults-When line scope c e = ap (flat_map (unknown line scope)) (uses-When c e) ∙ flat_map-append (unknown line scope) (map param_used (params_of c)) (uses e)
     ∙ ap (λ fs. fs ++ expr_faults line scope e) (flat_map-map (unknown line scope) param_used (params_of c))
 
-pub faults-Overlay : (line : ℕ) (scope : Scope) (es : List Expr) → expr_faults line scope (Overlay (record { members = es })) ≡ flat_map (expr_faults line scope) es
-faults-Overlay line scope es = ap (flat_map (unknown line scope)) (uses-Overlay es) ∙ flat_map-twice (unknown line scope) uses es
+uses-row : (e : Expr) (es : List Expr) → (e ≡ Overlay (record { members = es })) ⊎ (e ≡ Sequence (record { members = es })) → uses e ≡ flat_map uses es
+uses-row e es (inl is) = ap uses is ∙ uses-Overlay es
+uses-row e es (inr is) = ap uses is ∙ uses-Sequence es
 
-pub faults-Sequence : (line : ℕ) (scope : Scope) (es : List Expr) → expr_faults line scope (Sequence (record { members = es })) ≡ flat_map (expr_faults line scope) es
-faults-Sequence line scope es = ap (flat_map (unknown line scope)) (uses-Sequence es) ∙ flat_map-twice (unknown line scope) uses es
+pub faults-row : (line : ℕ) (scope : Scope) (e : Expr) (es : List Expr) → (e ≡ Overlay (record { members = es })) ⊎ (e ≡ Sequence (record { members = es })) → flat_map (expr_faults line scope) es ≡ expr_faults line scope e
+faults-row line scope e es is = sym (ap (flat_map (unknown line scope)) (uses-row e es is) ∙ flat_map-twice (unknown line scope) uses es)
 
 -- ---- one line more
 

@@ -3,7 +3,7 @@ use Rattle.std.specs.Prelude.{◌≡◌, refl, ℕ, ◌<◌, true, List, [], ◌
 use Rattle.std.proofs.Common.{zero, suc, ap, ◌∙◌, sym, subst, arith, get_or}
 use Rattle.std.specs.List.{AllByRecursion}
 use Rattle.std.proofs.lemmas.Bool.{both_ways}
-use Rattle.std.proofs.lemmas.Option.{get_or_from_slice_get, slice_get_within}
+use Rattle.std.proofs.lemmas.Option.{get_or_from_slice_get, none-some, slice_get_within}
 use Rattle.cpog_base.specs.Names.{place_of}
 use Rattle.cpog_defs.specs.Codes.{bit}
 use Rattle.pg_algebra.specs.declared.expr.Expr.{Expr}
@@ -25,10 +25,7 @@ pub all-at : {X : Type 0} (P : X → Type 0) (xs : List X) (i : ℕ) (x : X) →
 all-at P xs i x all is = subst P (get_or_from_slice_get xs i x x is) (all-get P xs i x all (slice_get_within xs i x is))
 
 named-over : (count : ℕ) (tables : List Tables) (place : Option ℕ) (t : Tables) → AllByRecursion (IsOver count) tables → tables_at tables place ≡ Some t → IsOver count t
-named-over count tables None t all is = absurd (none is)
-  where
-    none : None ≡ Some t → ⊥
-    none same = cc
+named-over count tables None t all is = absurd (none-some t is)
 named-over count tables (Some i) t all is = all-at (IsOver count) tables i t all is
 
 -- what was found is over the operations

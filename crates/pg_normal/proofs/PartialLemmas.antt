@@ -1,7 +1,7 @@
 -- A value that no open parameter changes is the same under all valuations that agree.
-use Rattle.std.specs.Prelude.{◌≡◌, ◌⊎◌, refl, ℕ, ◌<◌, ◌≤◌, ◌^◌, ◌/◌, ◌==◌, Bool, true, false, not, bit_and}
+use Rattle.std.specs.Prelude.{◌≡◌, ◌⊎◌, refl, ℕ, ◌<◌, ◌≤◌, ◌==◌, Bool, true, false, not}
 use Rattle.std.proofs.Common.{zero, suc, ap, ◌∙◌, sym, subst, arith, inl, inr}
-use Rattle.std.proofs.lemmas.Nat.Bits.{shr_and_one, bit_at-lt, same_from_bits, bit_at_above}
+use Rattle.std.proofs.lemmas.Nat.Bits.{bit_at-lt, same_from_bits, bit_at_above}
 use Rattle.std.proofs.lemmas.Bool.{cases_Bool, cases_eq, both_ways}
 use Rattle.std.proofs.lemmas.Bool.Decides.{nat_tests}
 use Rattle.cpog_defs.specs.Codes.{bit}
@@ -49,6 +49,3 @@ module _ (fixed values : ℕ) (f : ℕ → Bool)
 
   pub constant_on_agreeing : (n m : ℕ) → n < 64 → m < 64 → Agrees fixed values n → Agrees fixed values m → f n ≡ f m
   constant_on_agreeing n m hn hm an am = joined 6 n m (omega arith) hn an am (λ j le. ap (λ b. b == 1) (bit_at_above n 6 j hn le ∙ sym (bit_at_above m 6 j hm le)))
-
-pub bit_read : (word n : ℕ) → (bit_and (word / 2 ^ n) 1 == 1) ≡ bit word n
-bit_read word n = ap (λ b. b == 1) (shr_and_one word n)

@@ -1,5 +1,6 @@
 -- Rows of tables.
-use Rattle.std.specs.Prelude.{◌≡◌, refl, ℕ, ◌≤◌, ◌<◌, ◌+◌, false, ◌&&◌, ◌||◌, List, [], ◌∷◌, ◌++◌, length, slice_index, slice_set, bit_and, bit_or, replicate}
+use Rattle.std.specs.Prelude.{◌≡◌, refl, ℕ, ◌≤◌, ◌<◌, ◌+◌, false, ◌&&◌, ◌||◌, List, [], ◌∷◌, ◌++◌, length, slice_index, slice_set, bit_and, bit_or, replicate, Option, Some, None}
+use Rattle.std.specs.Option.{IsSomeAnd}
 use Rattle.std.proofs.Common.{zero, suc, subst, ap, ◌∙◌, sym, arith, get_or, take, drop, inl, inr, add-one}
 use Rattle.std.proofs.lemmas.List.{get_or-set_same, get_or-replicate, get_or_past, length-replicate}
 use Rattle.std.proofs.lemmas.Grind.{common_steps}
@@ -37,6 +38,11 @@ zero_row count row is v n = ap (λ xs. bit (slice_index xs v) n) is ∙ ap (λ x
       | inl lt ↦ get_or-replicate count v 0 0 lt
       | inr le ↦ get_or_past (replicate count 0) v 0 (subst (λ k. k ≤ v) (sym (length-replicate count 0)) le)
     ]
+
+-- the item at a place, and what holds of it
+pub some_at : {X : Type 0} (P : X → Type 0) (o : Option X) → IsSomeAnd o P → (x : X) × (o ≡ Some x) × P x
+some_at P None h = absurd h
+some_at P (Some x) h = (x, refl, h)
 
 pub next_item : {A : Type 0} (xs : List A) (i : ℕ) (x : A) → i < length xs → x ≡ get_or xs i x → drop i xs ≡ x ∷ drop (i + 1) xs
 next_item xs i x h is = rw add-one (drop-cons xs i x h ∙ ap (λ y. y ∷ drop (suc i) xs) (sym is))

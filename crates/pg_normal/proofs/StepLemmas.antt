@@ -1,6 +1,8 @@
 -- What each step of the walk over an expression does to the graphs.
-use Rattle.std.specs.Prelude.{◌≡◌, refl, ℕ, ◌<◌, ◌≤◌, ◌+◌, Bool, true, false, ◌&&◌, ◌||◌, List, length, map, slice_index, IsTrue, Option, Some, None, IfSome, Result, Ok, Err, OnOk}
+use Rattle.std.specs.Prelude.{◌≡◌, refl, ℕ, ◌<◌, ◌≤◌, ◌+◌, Bool, true, false, ◌&&◌, ◌||◌, List, length, map, slice_index, IsTrue, Option, Some, None, IfSome}
 use Rattle.std.proofs.Common.{ap, ap₂, ◌∙◌, sym, subst, get_or, drop, inl, inr}
+use Rattle.std.proofs.Math.Bool.{and-true, or-false}
+use Rattle.std.proofs.lemmas.Option.{none-some, same_Some}
 use Rattle.std.proofs.lemmas.Bool.{and_parts, cases_eq, eq-eqb, ne_eqb}
 use Rattle.std.proofs.lemmas.List.{drop_all}
 use Rattle.cpog_defs.specs.Codes.{bit}
@@ -89,15 +91,11 @@ pub op_added : (vertices after : List ℕ) (arcs : List (List ℕ)) (v n : ℕ) 
     → graph_of_rows after arcs n ≡ overlay (graph_of_rows vertices arcs n) (when guard (single v))
 op_added vertices after arcs v n guard same others = same_graph _ _
     (λ k. elim (cases_eq k v) [
-      | inl e ↦ rw e (rw (eq-eqb v v refl) (same ∙ ap (λ b. bit (slice_index vertices v) n || b) (sym (one guard))))
+      | inl e ↦ rw e (rw (eq-eqb v v refl) (same ∙ ap (λ b. bit (slice_index vertices v) n || b) (sym (and-true guard))))
       | inr ne ↦ rw (ne_eqb k v ne) (ap (λ x. bit x n) (others k ne) ∙ sym (none (bit (slice_index vertices k) n) guard))
     ])
     (λ u w. sym (none (bit (entry arcs u w) n) guard))
   where
-    one : (b : Bool) → (b && true) ≡ b
-    one true = refl
-    one false = refl
-
     none : (a b : Bool) → (a || (b && false)) ≡ a
     none true b = refl
     none false true = refl
@@ -114,11 +112,7 @@ pub line_ends : (vertices before after : List ℕ) (arcs start : List (List ℕ)
 line_ends vertices before after arcs start n g is united =
     same_graph _ _
     (λ v. united v ∙ ap (λ b. bit (slice_index vertices v) n || b) (ap (λ h. h.vertex v) is))
-    (λ u v. ap (λ h. h.arc u v) is ∙ none _)
-  where
-    none : (a : Bool) → (a || false) ≡ a
-    none true = refl
-    none false = refl
+    (λ u v. ap (λ h. h.arc u v) is ∙ or-false _)
 
 pub when_done : (g : Earlier) (t : Valuation) (c : Cond) (e : Expr) (guard table both : Bool) → both ≡ (guard && table) → table ≡ value t c
     → when both (graph_of g t e) ≡ when guard (when (value t c) (graph_of g t e))
@@ -130,17 +124,7 @@ nothing_before a g b vertices arcs is = same_graph _ _
     (λ v. ap₂ (λ x y. x || (y && g.vertex v)) (vertices v) is)
     (λ u v. ap₂ (λ x y. x || (y && g.arc u v)) (arcs u v) is)
 
-pub on_ok_map : {A E : Type 0} (r : Result A E) (P Q : Type 0) → (P → Q) → OnOk r P → OnOk r Q
-on_ok_map (Ok x) P Q f p = f p
-on_ok_map (Err e) P Q f p = p
-
 -- what holds of the table that was found
 pub table_in : (P : Table → Type 0) (o : Option Table) (x : Table) → o ≡ Some x → IfSome o P → P x
-table_in P (Some y) x e p = subst P (inside e) p
-  where
-    inside : Some y ≡ Some x → y ≡ x
-    inside same = cc
-table_in P None x e p = absurd (none e)
-  where
-    none : None ≡ Some x → ⊥
-    none same = cc
+table_in P (Some y) x e p = subst P (same_Some y x e) p
+table_in P None x e p = absurd (none-some x e)

@@ -1,55 +1,57 @@
 -- Texts that grow member by member, and the tests by which their members are chosen.
-use Rattle.std.specs.Prelude.{◌≡◌, ◌≢◌, ◌<◌, ◌≤◌, ◌+◌, ◌==◌, refl, ℕ, Bool, true, false, ◌&&◌, ◌||◌, if◌then◌else◌, List, [], ◌∷◌, ◌++◌, map, take, length, nat_lt}
+use Rattle.std.specs.Prelude.{◌≡◌, ◌≢◌, ◌<◌, ◌≤◌, ◌+◌, ◌==◌, refl, ℕ, Bool, true, false, ◌&&◌, ◌||◌, if◌then◌else◌, List, [], ◌∷◌, ◌++◌, map, take, length, nat_lt, codes}
 use Rattle.std.specs.Bool.{MatchBool}
 use Rattle.std.specs.List.{flat_map, slice_get}
 use Rattle.std.specs.Option.{IsSomeAnd}
 use Rattle.std.proofs.Common.{zero, suc, add-one, ap, ap₂, sym, arith, ◌∙◌, append_assoc, append-nil, get_or, inl, inr}
 use Rattle.std.proofs.lemmas.Bool.{cases_Bool, both_ways}
 use Rattle.std.proofs.lemmas.Bool.Decides.{nat_tests}
-use Rattle.std.proofs.lemmas.List.{take_more, length-take-le, length-map, map-append}
+use Rattle.std.proofs.lemmas.List.{take_more}
 use Rattle.std.proofs.lemmas.List.Concat.{flat_map-append}
 use Rattle.std.proofs.lemmas.Nat.Bits.{bit_at_above}
 use Rattle.cpog_defs.specs.Codes.{bit}
 use Rattle.cpog_defs.specs.Orders.{any_below, each_below}
 use Rattle.pg_algebra.specs.Tables.{flip, Changes, Stays}
 use Rattle.pg_algebra.specs.declared.table.Table.{Table}
-use Rattle.pg_normal.specs.Writing.{when_needed, following, joined, differ, depends, sets_needed, chosen}
+use Rattle.pg_text.specs.Writing.{when_needed, rest_text, row_text}
+use Rattle.pg_text.proofs.RowTexts.{rest_append}
+use Rattle.pg_normal.specs.Writing.{differ, depends, sets_needed, chosen, sum_text}
 use Rattle.pg_normal.proofs.MakingLemmas.{none_below}
 
 -- ---- one member more
 
-positive : (n : ℕ) → nat_lt 0 (suc n) ≡ true
-positive n = grind (arith, nat_tests)
-
-following_more : (sign t : List ℕ) (ts : List (List ℕ)) → following sign (ts ++ t ∷ []) ≡ following sign ts ++ (sign ++ t)
-following_more sign t ts = flat_map-append (λ x. sign ++ x) ts (t ∷ []) ∙ ap (λ x. following sign ts ++ x) (append-nil (sign ++ t))
-
-joined_more : (sign t : List ℕ) (ts : List (List ℕ)) → joined sign (ts ++ t ∷ []) ≡ joined sign ts ++ (when_needed (nat_lt 0 (length ts)) sign ++ t)
-joined_more sign t [] = append-nil t
-joined_more sign t (u ∷ us) =
-    ap (λ x. u ++ x) (following_more sign t us) ∙ sym (append_assoc u (following sign us) (sign ++ t)) ∙ ap (λ b. (u ++ following sign us) ++ (when_needed b sign ++ t)) (sym (positive (length us)))
-
--- one member more is put behind those that stand there
-pub put_more : {X : Type 0} (f : X → List ℕ) (sign : List ℕ) (xs : List X) (i : ℕ) (x d : X) (start out middle next : List ℕ) → i < length xs → x ≡ get_or xs i d
-    → out ≡ start ++ joined sign (map f (take i xs)) → middle ≡ out ++ when_needed (nat_lt 0 i) sign → next ≡ middle ++ f x → next ≡ start ++ joined sign (map f (take (i + 1) xs))
-put_more f sign xs i x d start out middle next lt is before between last =
-    let count : length (map f (take i xs)) ≡ i = length-map (take i xs) f ∙ length-take-le i xs (omega arith) in
-    let more : joined sign (map f (take (i + 1) xs)) ≡ joined sign (map f (take i xs)) ++ (when_needed (nat_lt 0 i) sign ++ f x) =
-    ap (λ l. joined sign (map f l)) (take_more xs i d lt ∙ ap (λ y. take i xs ++ y ∷ []) (sym is)) ∙ ap (joined sign) (map-append f (take i xs) (x ∷ [])) ∙ joined_more sign (f x) (map f (take i xs))
-    ∙ ap (λ n. joined sign (map f (take i xs)) ++ (when_needed (nat_lt 0 n) sign ++ f x)) count
-    in
-    last ∙ ap (λ m. m ++ f x) (between ∙ ap (λ o. o ++ when_needed (nat_lt 0 i) sign) before) ∙ append_assoc (start ++ joined sign (map f (take i xs))) (when_needed (nat_lt 0 i) sign) (f x)
-    ∙ append_assoc start (joined sign (map f (take i xs))) (when_needed (nat_lt 0 i) sign ++ f x) ∙ ap (λ t. start ++ t) (sym more)
-
 -- the terms of one member more are put behind those that stand there
 pub follow_more : {X : Type 0} (f : X → List (List ℕ)) (sign : List ℕ) (xs : List X) (i : ℕ) (x d : X) (start out next : List ℕ) → i < length xs → x ≡ get_or xs i d
-    → out ≡ start ++ following sign (flat_map f (take i xs)) → next ≡ out ++ following sign (f x) → next ≡ start ++ following sign (flat_map f (take (i + 1) xs))
+    → out ≡ start ++ rest_text sign (flat_map f (take i xs)) → next ≡ out ++ rest_text sign (f x) → next ≡ start ++ rest_text sign (flat_map f (take (i + 1) xs))
 follow_more f sign xs i x d start out next lt is before last =
     let more : flat_map f (take (i + 1) xs) ≡ flat_map f (take i xs) ++ f x =
     ap (flat_map f) (take_more xs i d lt ∙ ap (λ y. take i xs ++ y ∷ []) (sym is)) ∙ flat_map-append f (take i xs) (x ∷ []) ∙ ap (λ t. flat_map f (take i xs) ++ t) (append-nil (f x))
     in
-    last ∙ ap (λ o. o ++ following sign (f x)) before ∙ append_assoc start (following sign (flat_map f (take i xs))) (following sign (f x))
-    ∙ ap (λ t. start ++ t) (sym (flat_map-append (λ t. sign ++ t) (flat_map f (take i xs)) (f x)) ∙ ap (following sign) (sym more))
+    last ∙ ap (λ o. o ++ rest_text sign (f x)) before ∙ append_assoc start (rest_text sign (flat_map f (take i xs))) (rest_text sign (f x))
+    ∙ ap (λ t. start ++ t) (sym (rest_append sign (flat_map f (take i xs)) (f x)) ∙ ap (rest_text sign) (sym more))
+
+not_zero : (n : ℕ) → (suc n == 0) ≡ false
+not_zero n = grind (arith, nat_tests)
+
+-- the first terms, or the word for none, and then the others behind a sign each
+sum_parts : (f : ℕ → List ℕ) (g : ℕ → List (List ℕ)) (vs : List ℕ)
+    → (when_needed (length vs == 0) (codes "empty") ++ row_text (codes " + ") (map f vs)) ++ rest_text (codes " + ") (flat_map g vs) ≡ sum_text (map f vs ++ flat_map g vs)
+sum_parts f g [] = refl
+sum_parts f g (v ∷ vs) =
+    ap (λ b. (when_needed b (codes "empty") ++ row_text (codes " + ") (map f (v ∷ vs))) ++ rest_text (codes " + ") (flat_map g (v ∷ vs))) (not_zero (length vs))
+    ∙ append_assoc (f v) (rest_text (codes " + ") (map f vs)) (rest_text (codes " + ") (flat_map g (v ∷ vs)))
+    ∙ ap (λ x. f v ++ x) (sym (rest_append (codes " + ") (map f vs) (flat_map g (v ∷ vs))))
+
+pub written_sum : (start : List ℕ) (f : ℕ → List ℕ) (g : List ℕ → ℕ → List (List ℕ)) (vs a b : List ℕ) (n : ℕ) (first second : List ℕ) → a ≡ vs → b ≡ vs → n ≡ length vs
+    → first ≡ start ++ when_needed (n == 0) (codes "empty") → second ≡ first ++ row_text (codes " + ") (map f a)
+    → second ++ rest_text (codes " + ") (flat_map (g b) b) ≡ start ++ sum_text (map f vs ++ flat_map (g vs) vs)
+written_sum start f g vs a b n first second ea eb en none terms =
+    let word = when_needed (length vs == 0) (codes "empty") in
+    let front = row_text (codes " + ") (map f vs) in
+    let others = rest_text (codes " + ") (flat_map (g vs) vs) in
+    ap (λ xs. second ++ rest_text (codes " + ") (flat_map (g xs) xs)) eb
+    ∙ ap (λ o. o ++ others) (terms ∙ ap (λ xs. first ++ row_text (codes " + ") (map f xs)) ea ∙ ap (λ o. o ++ front) (none ∙ ap (λ k. start ++ when_needed (k == 0) (codes "empty")) en) ∙ append_assoc start word front)
+    ∙ append_assoc start (word ++ front) others ∙ ap (λ t. start ++ t) (sum_parts f (g vs) vs)
 
 -- ---- the tests
 

@@ -16,15 +16,17 @@ pub record Differs (table k among : ℕ) : Type 0 where
 abbrev pub Keeps : ℕ → ℕ → ℕ → Type 0
 Keeps table k among = (n : ℕ) → n < 64 → bit among n ≡ true → bit table n ≡ bit table (flip n k)
 
+-- no vertex differs
 abbrev pub KeepsVertices : Form → ℕ → ℕ → Type 0
 KeepsVertices f k among = (v : ℕ) → Keeps (vertex_table f v) k among
 
-abbrev pub KeepsArcsFrom : Form → ℕ → ℕ → ℕ → Type 0
-KeepsArcsFrom f u k among = (v : ℕ) → Keeps (arc_table f u v) k among
+-- no arc differs
+abbrev pub KeepsArcs : Form → ℕ → ℕ → Type 0
+KeepsArcs f k among = (u v : ℕ) → Keeps (arc_table f u v) k among
 
 -- no vertex and no arc differs
 abbrev pub KeepsGraph : Form → ℕ → ℕ → Type 0
-KeepsGraph f k among = KeepsVertices f k among × ((u : ℕ) → KeepsArcsFrom f u k among)
+KeepsGraph f k among = KeepsVertices f k among × KeepsArcs f k among
 
 pub record VertexDiffers (f : Form) (k among : ℕ) : Type 0 where
   pub vertex : ℕ

@@ -4,7 +4,9 @@ use Rattle.std.specs.List.{AllByRecursion}
 use Rattle.cpog_base.specs.Names.{place_of}
 use Rattle.cpog_defs.specs.Codes.{bit}
 use Rattle.pg_algebra.specs.Graphs.{Graph, empty}
-use Rattle.pg_algebra.specs.Meaning.{Earlier}
+use Rattle.pg_algebra.specs.declared.expr.Expr.{Expr}
+use Rattle.pg_algebra.specs.Conditions.{valuation}
+use Rattle.pg_algebra.specs.Meaning.{Earlier, graph_of}
 use Rattle.pg_normal.specs.declared.tables.Tables.{Tables}
 use Rattle.pg_normal.specs.declared.known.Known.{Known}
 use Rattle.pg_normal.specs.Appearing.{has}
@@ -39,13 +41,16 @@ abbrev pub tables_at : List Tables → Option ℕ → Option Tables
 tables_at forms None = None
 tables_at forms (Some i) = slice_get forms i
 
+-- what is kept of the graph of this name
 abbrev pub tables_named : Known → List ℕ → Option Tables
 tables_named known name = tables_at known.tables (place_of known.graphs name)
 
+-- its graph under valuation n, and the empty one where nothing is kept
 abbrev pub graph_or_empty : ℕ → Option Tables → Graph
 graph_or_empty n None = empty
 graph_or_empty n (Some t) = graph_of_tables t n
 
+-- its operations in order
 abbrev pub order_or_none : Option Tables → List ℕ
 order_or_none None = []
 order_or_none (Some t) = t.order
@@ -57,6 +62,10 @@ graphs_known known n name = graph_or_empty n (tables_named known name)
 -- their operations in the order of first appearance
 abbrev pub orders_known : Known → List ℕ → List ℕ
 orders_known known name = order_or_none (tables_named known name)
+
+-- the graph of an expression over what is known under valuation n
+abbrev pub graph_stated : Known → ℕ → Expr → Graph
+graph_stated known n e = graph_of (graphs_known known n) (valuation known.params n) e
 
 -- few parameters, and tables over so many operations for each graph that is known
 pub record IsKnown (count : ℕ) (known : Known) : Type 0 where
@@ -72,6 +81,13 @@ AreThere among some arcs = (u v n : ℕ) → n < 64 → bit among n ≡ true →
 pub record AreUnited (known : Known) (united : List ℕ) (arcs : List (List ℕ)) : Type 0 where
   pub each : length united ≡ length known.tables
   pub there : (i : ℕ) (t : Tables) → slice_get known.tables i ≡ Some t → AreThere (slice_index united i) t.arcs arcs
+
+-- rows to which expressions over known graphs are added: of vertices, of arcs, and of the graphs whose arcs are there
+pub record AreRowsOver (known : Known) (vertices : List ℕ) (arcs : List (List ℕ)) (united : List ℕ) : Type 0 where
+  pub over : IsKnown (length arcs) known
+  pub width : length vertices ≡ length arcs
+  pub square : IsSquare (length arcs) arcs
+  pub there : AreUnited known united arcs
 
 -- there is an arc from each vertex of the first row to each of the second, under the valuations of both
 abbrev pub AreJoined : List ℕ → List ℕ → List (List ℕ) → Type 0

@@ -50,9 +50,11 @@ scope_from scope (s ∷ ss) = scope_from (scope_after scope s.statement) ss
 
 -- ---- faults, on a line of this number
 
+-- the fault where the test holds
 abbrev pub fault_if : Bool → NameFault → List NameFault
 fault_if b f = if b then f ∷ [] else []
 
+-- the fault where it does not
 abbrev pub fault_unless : Bool → NameFault → List NameFault
 fault_unless b f = if b then [] else f ∷ []
 

@@ -19,5 +19,6 @@ abbrev mutual
   is_sound_row count params end_of-Expr = true
   is_sound_row count params (more_of-Expr e rest) = is_sound count params e && is_sound_row count params rest
 
+-- each of these is
 abbrev pub all_sound : ℕ → List (List ℕ) → List Expr → Bool
 all_sound count params es = list_all (is_sound count params) es

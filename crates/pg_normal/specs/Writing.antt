@@ -5,21 +5,8 @@ use Rattle.std.proofs.Common.{get_or}
 use Rattle.cpog_defs.specs.Codes.{bit}
 use Rattle.cpog_defs.specs.Orders.{all_below, each_below}
 use Rattle.pg_algebra.specs.Tables.{flip}
+use Rattle.pg_text.specs.Writing.{when_needed, row_text}
 use Rattle.pg_normal.specs.Forms.{Form, vertex_table, arc_table, sometimes}
-
--- the text where it is needed
-abbrev pub when_needed : Bool → List ℕ → List ℕ
-when_needed false text = []
-when_needed true text = text
-
--- texts with a sign before each
-abbrev pub following : List ℕ → List (List ℕ) → List ℕ
-following sign ts = flat_map (λ t. sign ++ t) ts
-
--- texts with a sign between them
-abbrev pub joined : List ℕ → List (List ℕ) → List ℕ
-joined sign [] = []
-joined sign (t ∷ ts) = t ++ following sign ts
 
 abbrev pub differ : Bool → Bool → Bool
 differ true b = not b
@@ -48,11 +35,11 @@ literal_text params n k = when_needed (not (bit n k)) (codes "!") ++ get_or para
 
 -- the bits of these parameters under a valuation
 abbrev pub valuation_text : List (List ℕ) → List ℕ → ℕ → List ℕ
-valuation_text params ks n = joined (codes " & ") (map (literal_text params n) ks)
+valuation_text params ks n = row_text (codes " & ") (map (literal_text params n) ks)
 
 -- one of these valuations
 abbrev pub valuations_text : List (List ℕ) → List ℕ → List ℕ → List ℕ
-valuations_text params ks ns = joined (codes " | ") (map (valuation_text params ks) ns)
+valuations_text params ks ns = row_text (codes " | ") (map (valuation_text params ks) ns)
 
 -- the condition before a term, and nothing where the table is constant 1
 unfoldable pub prefix_text : List (List ℕ) → ℕ → List ℕ
@@ -84,7 +71,7 @@ vertices_of f = map (λ e. e.0) f.vertices
 -- the terms of a sum, or the word for none
 abbrev pub sum_text : List (List ℕ) → List ℕ
 sum_text [] = codes "empty"
-sum_text (t ∷ ts) = joined (codes " + ") (t ∷ ts)
+sum_text (t ∷ ts) = row_text (codes " + ") (t ∷ ts)
 
 -- the text of a form
 abbrev pub form_text : Form → List (List ℕ) → List (List ℕ) → List ℕ

@@ -1,14 +1,13 @@
 //! The tables of an expression are made in one walk over its tree: a condition goes into the guard of what it governs, an
 //! earlier graph is united with what is there, which is remembered, so that a graph that is named again and again is
 //! united once, and of a sequence what came before is one row of tables.
-ghost use Rattle.std.specs.Prelude.{◌≡◌, ◌<◌, ℕ, length, slice_get, IsTrue, OnOk, IfOk};
+ghost use Rattle.std.specs.Prelude.{◌≡◌, ◌<◌, ℕ, length, map, slice_get, IsTrue, OnOk, IfOk};
+ghost use Rattle.std.specs.List.{flat_map};
 ghost use Rattle.cpog_defs.specs.Codes.{bit};
-ghost use Rattle.pg_algebra.specs.Graphs.{overlay, when};
-ghost use Rattle.pg_algebra.specs.Conditions.{valuation};
-ghost use Rattle.pg_algebra.specs.Meaning.{graph_of};
+ghost use Rattle.pg_algebra.specs.Graphs.{overlay, overlay_all, sequence_all, when};
 ghost use Rattle.pg_normal.specs.Appearing.{appearing, first_appearing, with_numbers};
-ghost use Rattle.pg_normal.specs.Known.{AreUnited, IsKnown, IsOver, IsSquare, graph_of_rows, graph_or_empty, graph_of_tables, graphs_known, orders_known};
-ghost use Rattle.pg_normal.specs.Sound.{is_sound};
+ghost use Rattle.pg_normal.specs.Known.{AreRowsOver, IsKnown, IsOver, graph_of_rows, graph_of_tables, graph_or_empty, graph_stated, orders_known};
+ghost use Rattle.pg_normal.specs.Sound.{all_sound, is_sound};
 
 use crate::tables::{join_once, take_up, unite_rows, zero_rows};
 use crate::{Known, Order, Row, Tables};
@@ -18,6 +17,7 @@ use sqlite_items::Items;
 use std::alloc::Global;
 
 /// Notes the operations of an expression as they stand in it.
+#[cycle(note)]
 fn note(expr: &Expr, known: &Known, order: &mut Order) -> Result<(), Memory>
     ensures { OnOk result (order.new ≡ with_numbers order.old (appearing (orders_known known.now) expr.now)) }
 {
@@ -29,19 +29,19 @@ fn note(expr: &Expr, known: &Known, order: &mut Order) -> Result<(), Memory>
             None => Ok(()),
         },
         Expr::When(_, inner) => note(inner.get(), known, order),
-        Expr::Overlay(list) => {
-            'over: for member in list.members() {
-                note(member, known, order)?;
-            }
-            Ok(())
-        }
-        Expr::Sequence(list) => {
-            'line: for member in list.members() {
-                note(member, known, order)?;
-            }
-            Ok(())
-        }
+        Expr::Overlay(list) | Expr::Sequence(list) => note_each(list.members(), known, order),
     }
+}
+
+/// Notes the operations of each expression as they stand in it.
+#[cycle(note)]
+fn note_each(members: &[Expr], known: &Known, order: &mut Order) -> Result<(), Memory>
+    ensures { OnOk result (order.new ≡ with_numbers order.old (flat_map (appearing (orders_known known.now)) members.now)) }
+{
+    'members: for member in members {
+        note(member, known, order)?;
+    }
+    Ok(())
 }
 
 /// Adds the graph of an earlier line, where the guard is 1, and its arcs only where they are not there yet.
@@ -53,14 +53,9 @@ fn add_earlier(
     arcs: &mut [Row],
     united: &mut Row,
 )
-    requires known { IsKnown (length arcs.old) known.now }
     requires place { place < length known.now.tables }
-    requires vertices { length vertices.old ≡ length arcs.old }
-    requires square { IsSquare (length arcs.old) arcs.old }
-    requires united { AreUnited known.now united.old arcs.old }
-    ensures vertices { length vertices.new ≡ length arcs.old }
-    ensures square { IsSquare (length arcs.old) arcs.new }
-    ensures united { AreUnited known.now united.new arcs.new }
+    requires rows { AreRowsOver known.now vertices.old arcs.old united.old }
+    ensures rows { AreRowsOver known.now vertices.new arcs.new united.new }
     ensures graph { (n : ℕ) → n < 64 → graph_of_rows vertices.new arcs.new n ≡ overlay (graph_of_rows vertices.old arcs.old n) (when (bit guard.0 n) (graph_or_empty n (slice_get known.now.tables place))) }
 {
     let tables = &known.tables.as_slice()[place];
@@ -73,6 +68,7 @@ fn add_earlier(
 }
 
 /// Adds the graph of an expression, where the guard is 1.
+#[cycle(add)]
 fn add(
     alloc: Global,
     expr: &Expr,
@@ -82,15 +78,10 @@ fn add(
     arcs: &mut [Row],
     united: &mut Row,
 ) -> Result<(), Memory>
-    requires known { IsKnown (length arcs.old) known.now }
     requires sound { IsTrue (is_sound (length arcs.old) known.now.params expr.now) }
-    requires vertices { length vertices.old ≡ length arcs.old }
-    requires square { IsSquare (length arcs.old) arcs.old }
-    requires united { AreUnited known.now united.old arcs.old }
-    ensures vertices { length vertices.new ≡ length arcs.old }
-    ensures square { IsSquare (length arcs.old) arcs.new }
-    ensures united { OnOk result (AreUnited known.now united.new arcs.new) }
-    ensures graph { OnOk result ((n : ℕ) → n < 64 → graph_of_rows vertices.new arcs.new n ≡ overlay (graph_of_rows vertices.old arcs.old n) (when (bit guard.0 n) (graph_of (graphs_known known.now n) (valuation known.now.params n) expr.now))) }
+    requires rows { AreRowsOver known.now vertices.old arcs.old united.old }
+    ensures rows { OnOk result (AreRowsOver known.now vertices.new arcs.new united.new) }
+    ensures graph { OnOk result ((n : ℕ) → n < 64 → graph_of_rows vertices.new arcs.new n ≡ overlay (graph_of_rows vertices.old arcs.old n) (when (bit guard.0 n) (graph_stated known.now n expr.now))) }
 {
     match expr {
         Expr::Empty => Ok(()),
@@ -106,37 +97,68 @@ fn add(
         }
         Expr::When(cond, inner) => {
             let table = table_of(cond.get(), &known.params).unwrap();
-            add(
-                alloc,
-                inner.get(),
-                guard.and(table),
-                known,
-                vertices,
-                arcs,
-                united,
-            )
+            let both = guard.and(table);
+            add(alloc, inner.get(), both, known, vertices, arcs, united)
         }
         Expr::Overlay(list) => {
-            'over: for member in list.members() {
-                add(alloc, member, guard, known, vertices, arcs, united)?;
-            }
-            Ok(())
+            add_overlay(alloc, list.members(), guard, known, vertices, arcs, united)
         }
         Expr::Sequence(list) => {
-            let mut before = Row::zeros(alloc, arcs.len())?;
-            // a vertex is joined where it has an arc from each that came before
-            let mut joined = Row::zeros(alloc, arcs.len())?;
-            let mut here = Row::zeros(alloc, arcs.len())?;
-            'line: for member in list.members() {
-                here.clear();
-                add(alloc, member, guard, known, &mut here, arcs, united)?;
-                join_once(arcs, &before, &mut joined, &here);
-                take_up(&mut before, &mut joined, &here);
-            }
-            vertices.unite(&before, Table::constant(true));
-            Ok(())
+            add_sequence(alloc, list.members(), guard, known, vertices, arcs, united)
         }
     }
+}
+
+/// Adds the overlay of graphs, where the guard is 1.
+#[cycle(add)]
+fn add_overlay(
+    alloc: Global,
+    members: &[Expr],
+    guard: Table,
+    known: &Known,
+    vertices: &mut Row,
+    arcs: &mut [Row],
+    united: &mut Row,
+) -> Result<(), Memory>
+    requires sound { IsTrue (all_sound (length arcs.old) known.now.params members.now) }
+    requires rows { AreRowsOver known.now vertices.old arcs.old united.old }
+    ensures rows { OnOk result (AreRowsOver known.now vertices.new arcs.new united.new) }
+    ensures graph { OnOk result ((n : ℕ) → n < 64 → graph_of_rows vertices.new arcs.new n ≡ overlay (graph_of_rows vertices.old arcs.old n) (when (bit guard.0 n) (overlay_all (map (graph_stated known.now n) members.now)))) }
+{
+    'over: for member in members {
+        add(alloc, member, guard, known, vertices, arcs, united)?;
+    }
+    Ok(())
+}
+
+/// Adds the sequence of graphs, where the guard is 1.
+#[cycle(add)]
+fn add_sequence(
+    alloc: Global,
+    members: &[Expr],
+    guard: Table,
+    known: &Known,
+    vertices: &mut Row,
+    arcs: &mut [Row],
+    united: &mut Row,
+) -> Result<(), Memory>
+    requires sound { IsTrue (all_sound (length arcs.old) known.now.params members.now) }
+    requires rows { AreRowsOver known.now vertices.old arcs.old united.old }
+    ensures rows { OnOk result (AreRowsOver known.now vertices.new arcs.new united.new) }
+    ensures graph { OnOk result ((n : ℕ) → n < 64 → graph_of_rows vertices.new arcs.new n ≡ overlay (graph_of_rows vertices.old arcs.old n) (when (bit guard.0 n) (sequence_all (map (graph_stated known.now n) members.now)))) }
+{
+    let mut before = Row::zeros(alloc, arcs.len())?;
+    // a vertex is joined where it has an arc from each that came before
+    let mut joined = Row::zeros(alloc, arcs.len())?;
+    let mut here = Row::zeros(alloc, arcs.len())?;
+    'line: for member in members {
+        here.clear();
+        add(alloc, member, guard, known, &mut here, arcs, united)?;
+        join_once(arcs, &before, &mut joined, &here);
+        take_up(&mut before, &mut joined, &here);
+    }
+    vertices.unite(&before, Table::constant(true));
+    Ok(())
 }
 
 /// The tables of an expression over so many operations.
@@ -153,7 +175,7 @@ pub(crate) fn tables_of(
     requires known { IsKnown count known.now }
     requires sound { IsTrue (is_sound count known.now.params expr.now) }
     ensures over { IfOk result (IsOver count) }
-    ensures graph { IfOk result (λ t. (n : ℕ) → n < 64 → graph_of_tables t n ≡ graph_of (graphs_known known.now n) (valuation known.now.params n) expr.now) }
+    ensures graph { IfOk result (λ t. (n : ℕ) → n < 64 → graph_of_tables t n ≡ graph_stated known.now n expr.now) }
     ensures order { IfOk result (λ t. t.order ≡ first_appearing (orders_known known.now) expr.now) }
 {
     let mut vertices = Row::zeros(alloc, count)?;

@@ -102,6 +102,7 @@ impl NormalForm {
         ensures tables { OnOk result ((w : ℕ) → vertex_table self.new w ≡ (if w == v then table.0 else vertex_table self.old w)) }
         ensures err { OnErr result (self.new ≡ self.old) }
     {
+        // read here, so that it is known to be a word of 64 bits
         let _word = table.0;
         if self.vertices.len() >= u32::MAX as usize {
             return Err(Memory);
@@ -124,6 +125,7 @@ impl NormalForm {
         ensures tables { OnOk result ((a b : ℕ) → arc_table self.new a b ≡ (if is_arc a b (u, v) then table.0 else arc_table self.old a b)) }
         ensures err { OnErr result (self.new ≡ self.old) }
     {
+        // read here, so that it is known to be a word of 64 bits
         let _word = table.0;
         if self.arcs.len() >= u32::MAX as usize {
             return Err(Memory);

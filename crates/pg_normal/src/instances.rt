@@ -1,12 +1,12 @@
 //! A scenario is the graph of its form where the bound parameters have their bits, which no other parameter may change.
-ghost use Rattle.std.specs.Prelude.{◌≡◌, ◌<◌, ◌≤◌, ◌⊎◌, ◌==◌, ◌||◌, ◌&&◌, ◌↔◌, ℕ, true, false, IfOk, IfErr, OnOk, MatchOption, if◌then◌else◌};
+ghost use Rattle.std.specs.Prelude.{◌≡◌, ◌<◌, ◌≤◌, ◌⊎◌, ◌↔◌, ℕ, [], true, false, IfOk, IfErr, OnOk, MatchOption};
 ghost use Rattle.std.specs.Bool.{MatchBool};
 ghost use Rattle.std.specs.FinSet as set;
 ghost use Rattle.cpog_base.specs.Arcs.{has_arc};
 ghost use Rattle.cpog_defs.specs.Codes.{bit};
-ghost use Rattle.pg_normal.specs.Forms.{vertex_table, arc_table, graph_at, sometimes, IsForm};
+ghost use Rattle.pg_normal.specs.Forms.{vertex_table, arc_table, graph_at, sometimes};
 ghost use Rattle.pg_normal.specs.Instances.{Agrees, IsInstance, IsInstanceFault, IsScenarioOf, IsUnbound};
-ghost use Rattle.pg_normal.specs.Changes.{Differs, Keeps, KeepsVertices, KeepsArcsFrom, KeepsGraph, VertexDiffers, ArcDiffers, IsBelow};
+ghost use Rattle.pg_normal.specs.Changes.{Differs, Keeps, KeepsVertices, KeepsArcs, KeepsGraph, VertexDiffers, ArcDiffers, IsBelow};
 ghost use Rattle.pg_normal.specs.declared.instances.InstanceFault.TheVariants as fault;
 
 use crate::NormalForm;
@@ -93,29 +93,13 @@ fn changes(table: Table, k: u8, among: Table) -> bool
 }
 
 /// Whether parameter k alone changes which vertices there are.
-fn vertices_change(form: &NormalForm, k: u8, among: Table, count: u8) -> bool
-    requires parameter { k < 6 }
-    requires form { IsForm form.now }
-    requires below { IsBelow count form.now }
+fn vertices_change(form: &NormalForm, k: u8, among: Table) -> bool
+    requires { k < 6 }
     ensures { MatchBool result (VertexDiffers form.now k among.0) (KeepsVertices form.now k among.0) }
 {
-    'vertices: for v in 0..count {
-        if changes(form.vertex_table(u32::from(v)), k, among) {
-            return true;
-        }
-    }
-    false
-}
-
-/// Whether parameter k alone changes which arcs there are from one vertex.
-fn arcs_change_from(form: &NormalForm, u: u8, k: u8, among: Table, count: u8) -> bool
-    requires parameter { k < 6 }
-    requires form { IsForm form.now }
-    requires below { IsBelow count form.now }
-    ensures { MatchBool result (ArcDiffers form.now k among.0) (KeepsArcsFrom form.now u k among.0) }
-{
-    'seconds: for v in 0..count {
-        if changes(form.arc_table(u32::from(u), u32::from(v)), k, among) {
+    'vertices: for i in 0..form.vertices() {
+        let v = form.vertex(i);
+        if changes(form.vertex_table(v), k, among) {
             return true;
         }
     }
@@ -123,14 +107,13 @@ fn arcs_change_from(form: &NormalForm, u: u8, k: u8, among: Table, count: u8) ->
 }
 
 /// Whether parameter k alone changes which arcs there are.
-fn arcs_change(form: &NormalForm, k: u8, among: Table, count: u8) -> bool
-    requires parameter { k < 6 }
-    requires form { IsForm form.now }
-    requires below { IsBelow count form.now }
-    ensures { MatchBool result (ArcDiffers form.now k among.0) ((u : ℕ) → KeepsArcsFrom form.now u k among.0) }
+fn arcs_change(form: &NormalForm, k: u8, among: Table) -> bool
+    requires { k < 6 }
+    ensures { MatchBool result (ArcDiffers form.now k among.0) (KeepsArcs form.now k among.0) }
 {
-    'firsts: for u in 0..count {
-        if arcs_change_from(form, u, k, among, count) {
+    'arcs: for i in 0..form.arcs() {
+        let (u, v) = form.arc_ends(i);
+        if changes(form.arc_table(u, v), k, among) {
             return true;
         }
     }
@@ -138,24 +121,20 @@ fn arcs_change(form: &NormalForm, k: u8, among: Table, count: u8) -> bool
 }
 
 /// Whether parameter k alone changes the graph under some of these valuations.
-fn graph_changes(form: &NormalForm, k: u8, among: Table, count: u8) -> bool
-    requires parameter { k < 6 }
-    requires form { IsForm form.now }
-    requires below { IsBelow count form.now }
+fn graph_changes(form: &NormalForm, k: u8, among: Table) -> bool
+    requires { k < 6 }
     ensures { MatchBool result (VertexDiffers form.now k among.0 ⊎ ArcDiffers form.now k among.0) (KeepsGraph form.now k among.0) }
 {
-    vertices_change(form, k, among, count) || arcs_change(form, k, among, count)
+    vertices_change(form, k, among) || arcs_change(form, k, among)
 }
 
 /// The least parameter that is not bound and changes the graph under some of these valuations.
-fn first_unbound(form: &NormalForm, bound: Partial, among: Table, count: u8) -> Option<u8>
-    requires among { (n : ℕ) → n < 64 → (bit among.0 n ≡ true) ↔ Agrees bound.fixed bound.values n }
-    requires form { IsForm form.now }
-    requires below { IsBelow count form.now }
+fn first_unbound(form: &NormalForm, bound: Partial, among: Table) -> Option<u8>
+    requires { (n : ℕ) → n < 64 → (bit among.0 n ≡ true) ↔ Agrees bound.fixed bound.values n }
     ensures { MatchOption result ((k : ℕ) → k < 6 → bit bound.fixed k ≡ false → KeepsGraph form.now k among.0) (IsUnbound form.now bound.fixed bound.values) }
 {
     'parameters: for k in 0..6 {
-        if !is_set(bound.fixed, k) && graph_changes(form, k, among, count) {
+        if !is_set(bound.fixed, k) && graph_changes(form, k, among) {
             return Some(k);
         }
     }
@@ -169,7 +148,7 @@ fn with_vertices(alloc: Global, form: &NormalForm, n: u8, count: u8) -> Scenario
     requires below { IsBelow count form.now }
     ensures size { result.count ≡ count }
     ensures ops { (v : ℕ) → set.contains result.ops v ≡ bit (vertex_table form.now v) n }
-    ensures arcs { (u v : ℕ) → has_arc result.arcs u v ≡ false }
+    ensures arcs { result.arcs ≡ [] }
 {
     let mut scenario = Scenario::new(alloc, count);
     'vertices: for v in 0..count {
@@ -180,26 +159,21 @@ fn with_vertices(alloc: Global, form: &NormalForm, n: u8, count: u8) -> Scenario
     scenario
 }
 
-/// Gives a scenario the arcs from one vertex under valuation n.
-fn add_arcs_from(
-    scenario: &mut Scenario,
-    form: &NormalForm,
-    n: u8,
-    u: u8,
-    count: u8,
-) -> Result<(), Memory>
+/// Gives a scenario the arcs under valuation n.
+fn add_arcs(scenario: &mut Scenario, form: &NormalForm, n: u8) -> Result<(), Memory>
     requires valuation { n < 64 }
-    requires form { IsForm form.now }
-    requires below { IsBelow count form.now }
+    requires few { scenario.old.count ≤ 128 }
+    requires below { IsBelow scenario.old.count form.now }
     requires ops { (v : ℕ) → set.contains scenario.old.ops v ≡ bit (vertex_table form.now v) n }
-    requires fresh { (v : ℕ) → has_arc scenario.old.arcs u v ≡ false }
+    requires none { scenario.old.arcs ≡ [] }
     ensures size { OnOk result (scenario.new.count ≡ scenario.old.count) }
     ensures ops { OnOk result (scenario.new.ops ≡ scenario.old.ops) }
-    ensures arcs { OnOk result ((a b : ℕ) → has_arc scenario.new.arcs a b ≡ (if a == u then bit (arc_table form.now a b) n else has_arc scenario.old.arcs a b)) }
+    ensures arcs { OnOk result ((u v : ℕ) → has_arc scenario.new.arcs u v ≡ bit (arc_table form.now u v) n) }
 {
-    'seconds: for v in 0..count {
-        if value_at(form.arc_table(u32::from(u), u32::from(v)), n) {
-            scenario.add_arc(OpId(u), OpId(v))?;
+    'arcs: for i in 0..form.arcs() {
+        let (u, v) = form.arc_ends(i);
+        if value_at(form.arc_table(u, v), n) {
+            scenario.add_arc(OpId(u as u8), OpId(v as u8))?;
         }
     }
     Ok(())
@@ -209,14 +183,11 @@ fn add_arcs_from(
 fn scenario_at(alloc: Global, form: &NormalForm, n: u8, count: u8) -> Result<Scenario, Memory>
     requires valuation { n < 64 }
     requires few { count ≤ 128 }
-    requires form { IsForm form.now }
     requires below { IsBelow count form.now }
     ensures { IfOk result (IsScenarioOf count (graph_at form.now n)) }
 {
     let mut scenario = with_vertices(alloc, form, n, count);
-    'firsts: for u in 0..count {
-        add_arcs_from(&mut scenario, form, n, u, count)?;
-    }
+    add_arcs(&mut scenario, form, n)?;
     Ok(scenario)
 }
 
@@ -237,8 +208,7 @@ pub fn instance(
     ensures ok { IfOk result (IsInstance form.now bound.fixed bound.values count) }
     ensures err { IfErr result (IsInstanceFault form.now bound.fixed bound.values) }
 {
-    let _vertices = form.vertices();
-    if let Some(k) = first_unbound(form, bound, agreeing(bound), count) {
+    if let Some(k) = first_unbound(form, bound, agreeing(bound)) {
         return Err(InstanceFault::Unbound(k));
     }
     let scenario = scenario_at(alloc, form, bound.values, count)?;

@@ -11,7 +11,7 @@ use std::alloc::Global;
 
 /// The parameters, and the graphs with their tables.
 #[derive(Drop)]
-pub struct Known {
+pub(crate) struct Known {
     pub(crate) params: Names,
     pub(crate) graphs: Names,
     pub(crate) tables: Items<Tables>,
@@ -19,7 +19,7 @@ pub struct Known {
 
 impl Known {
     /// These parameters, and no graph.
-    pub fn new(alloc: Global, params: Names) -> Known
+    pub(crate) fn new(alloc: Global, params: Names) -> Known
         ensures { result ≡ record { params = params; graphs = []; tables = [] } }
     {
         Known {

@@ -29,13 +29,13 @@ mod writing;
 
 pub use form::NormalForm;
 pub use instances::{InstanceFault, Partial, instance};
-pub use known::Known;
+pub(crate) use known::Known;
 pub use laws::{forms_have_no_fault, one_name_fault, one_normal_text};
 pub use lines::write_normal;
 pub use listing::{NormalList, normals};
-pub use making::{form_of, with_graph};
+pub(crate) use making::{form_of, with_graph};
+pub use naming::NameFault;
 pub(crate) use naming::Scope;
-pub use naming::{NameFault, check_names};
 pub(crate) use order::Order;
 pub(crate) use row::Row;
 pub(crate) use tables::Tables;

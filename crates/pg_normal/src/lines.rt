@@ -1,24 +1,17 @@
 //! The forms of a file are written a line for each graph and scenario, behind the line of the parameters.
-ghost use Rattle.std.specs.Prelude.{◌≡◌, ◌++◌, codes, map, IfOk, OnOk};
+ghost use Rattle.std.specs.Prelude.{◌≡◌, ◌++◌, codes, IfOk, OnOk};
 ghost use Rattle.line_text.specs.Lines.{text_of};
-ghost use Rattle.pg_text.specs.Writing.{bit_text, bind_text, row_text, with_text};
+ghost use Rattle.pg_text.specs.Writing.{row_text, with_text};
 ghost use Rattle.pg_normal.specs.Listing.{params_lines, definition_text, normal_text};
 ghost use Rattle.pg_normal.specs.Normals.{params_in, AreNormalsOf};
 ghost use Rattle.pg_normal.specs.Writing.{form_text};
 
 use crate::naming::scope_of;
-use crate::writing::{name_of, put, put_form, put_if};
+use crate::writing::put_form;
 use crate::{NormalForm, NormalList, Scope};
 use cpog_base::{Memory, Name, Names};
-use pg_text::{File, Statement};
+use pg_text::{File, Statement, name_of, put, put_if, text_of_bindings};
 use std::alloc::Global;
-
-/// A bit as text.
-fn text_of_bit(bit: bool) -> &'static [u8]
-    ensures { result.now ≡ bit_text bit }
-{
-    if bit { b"1" } else { b"0" }
-}
 
 /// Puts names last with commas between them.
 fn put_names(out: &mut Vec<u8>, names: &Names) -> Result<(), Memory>
@@ -43,35 +36,6 @@ fn put_params(out: &mut Vec<u8>, params: &Names) -> Result<(), Memory>
     put(out, b"\n")
 }
 
-/// Puts a name, the sign of equality and a bit last.
-fn put_binding(out: &mut Vec<u8>, binding: &(Name, bool)) -> Result<(), Memory>
-    ensures { OnOk result (out.new.items ≡ out.old.items ++ bind_text binding.now) }
-{
-    let (name, bit) = binding;
-    put(out, name.as_str().as_bytes())?;
-    put(out, b" = ")?;
-    put(out, text_of_bit(*bit))
-}
-
-/// Puts bindings last with commas between them.
-fn put_bindings(out: &mut Vec<u8>, bindings: &[(Name, bool)]) -> Result<(), Memory>
-    ensures { OnOk result (out.new.items ≡ out.old.items ++ row_text (codes ", ") (map bind_text bindings.now)) }
-{
-    'bindings: for (i, binding) in bindings.iter().enumerate() {
-        put_if(out, i > 0, b", ")?;
-        put_binding(out, binding)?;
-    }
-    Ok(())
-}
-
-/// Puts `with` and the bindings last, where there is one.
-fn put_with(out: &mut Vec<u8>, bindings: &[(Name, bool)]) -> Result<(), Memory>
-    ensures { OnOk result (out.new.items ≡ out.old.items ++ with_text bindings.now) }
-{
-    put_if(out, !bindings.is_empty(), b" with ")?;
-    put_bindings(out, bindings)
-}
-
 /// Puts a keyword, a name, the sign of equality and a form last.
 fn put_definition(
     alloc: Global,
@@ -88,6 +52,14 @@ fn put_definition(
     put(out, name.as_str().as_bytes())?;
     put(out, b" = ")?;
     put_form(alloc, out, form, names, params)
+}
+
+/// Puts `with` and the bindings last, where there is one.
+fn put_with(alloc: Global, out: &mut Vec<u8>, bindings: &[(Name, bool)]) -> Result<(), Memory>
+    ensures { OnOk result (out.new.items ≡ out.old.items ++ with_text bindings.now) }
+{
+    let text = text_of_bindings(alloc, bindings)?;
+    put(out, &text)
 }
 
 /// The parameters of a file whose names are in order.
@@ -127,7 +99,7 @@ pub fn write_normal(alloc: Global, file: &File, normals: &NormalList) -> Result<
             Statement::Scenario { name, bindings, .. } => {
                 let form = normals.form(place);
                 put_definition(alloc, &mut out, b"scenario ", name, form, names, &params)?;
-                put_with(&mut out, bindings.as_slice())?;
+                put_with(alloc, &mut out, bindings.as_slice())?;
                 put(&mut out, b"\n")?;
                 place += 1;
             }

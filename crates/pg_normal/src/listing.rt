@@ -119,7 +119,8 @@ fn put_normal(normals: &mut Vec<Normal>, form: NormalForm, bound: Partial) -> Re
 ///
 /// # Errors
 ///
-/// As `check_names`.
+/// `Duplicate`, `UnknownGraph` or `UnknownParam` with the number of the line and the name, of the first fault of names
+/// in the file, by line, and within a line by place; `Memory` where none is left.
 pub fn normals(alloc: Global, file: &File) -> Result<NormalList, NameFault>
     ensures ok { IfOk result (λ list. AreNormalsOf file.now list.normals) }
     ensures err { IfErr result (IsNameFault file.now) }

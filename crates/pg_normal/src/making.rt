@@ -76,6 +76,7 @@ pub(crate) fn form_of_tables(
     let mut form = NormalForm::new(alloc);
     add_vertices(&mut form, tables)?;
     add_arcs(&mut form, tables, count)?;
+    // that it is a form is told with the number of its arcs
     let _arcs = form.arcs();
     Ok(form)
 }
@@ -85,7 +86,12 @@ pub(crate) fn form_of_tables(
 /// # Errors
 ///
 /// `Memory` where none is left.
-pub fn form_of(alloc: Global, expr: &Expr, known: &Known, count: u32) -> Result<NormalForm, Memory>
+pub(crate) fn form_of(
+    alloc: Global,
+    expr: &Expr,
+    known: &Known,
+    count: u32,
+) -> Result<NormalForm, Memory>
     requires known { IsKnown count known.now }
     requires sound { IsTrue (is_sound count known.now.params expr.now) }
     ensures { IfOk result (IsFormOf (λ n. graph_of (graphs_known known.now n) (valuation known.now.params n) expr.now) (first_appearing (orders_known known.now) expr.now)) }
@@ -99,7 +105,7 @@ pub fn form_of(alloc: Global, expr: &Expr, known: &Known, count: u32) -> Result<
 /// # Errors
 ///
 /// `Memory` where none is left.
-pub fn with_graph(
+pub(crate) fn with_graph(
     alloc: Global,
     known: Known,
     name: &str,

@@ -115,6 +115,7 @@ fn define(alloc: Global, line: u32, names: &mut Names, name: &Name) -> Result<()
 }
 
 /// Tells the first parameter of a condition that is not known.
+#[cycle(condition)]
 fn check_condition(alloc: Global, line: u32, params: &Names, cond: &Cond) -> Result<(), NameFault>
     ensures ok { OnOk result (flat_map (unknown_param line params.now) (params_of cond.now) ≡ []) }
     ensures err { IfErr result (IsFirst (flat_map (unknown_param line params.now) (params_of cond.now))) }
@@ -123,22 +124,29 @@ fn check_condition(alloc: Global, line: u32, params: &Names, cond: &Cond) -> Res
         Cond::Bit(_) => Ok(()),
         Cond::Param(name) => check_param(alloc, line, params, name),
         Cond::Not(inner) => check_condition(alloc, line, params, inner.get()),
-        Cond::And(list) => {
-            'every: for member in list.members() {
-                check_condition(alloc, line, params, member)?;
-            }
-            Ok(())
-        }
-        Cond::Or(list) => {
-            'some: for member in list.members() {
-                check_condition(alloc, line, params, member)?;
-            }
-            Ok(())
-        }
+        Cond::And(list) | Cond::Or(list) => check_conditions(alloc, line, params, list.members()),
     }
 }
 
+/// Tells the first parameter of conditions that is not known.
+#[cycle(condition)]
+fn check_conditions(
+    alloc: Global,
+    line: u32,
+    params: &Names,
+    members: &[Cond],
+) -> Result<(), NameFault>
+    ensures ok { OnOk result (flat_map (unknown_param line params.now) (flat_map params_of members.now) ≡ []) }
+    ensures err { IfErr result (IsFirst (flat_map (unknown_param line params.now) (flat_map params_of members.now))) }
+{
+    'members: for member in members {
+        check_condition(alloc, line, params, member)?;
+    }
+    Ok(())
+}
+
 /// Tells the first use in an expression that is not known.
+#[cycle(expression)]
 fn check_expression(alloc: Global, line: u32, scope: &Scope, expr: &Expr) -> Result<(), NameFault>
     ensures ok { OnOk result (expr_faults line scope.now expr.now ≡ []) }
     ensures err { IfErr result (IsFirst (expr_faults line scope.now expr.now)) }
@@ -151,19 +159,27 @@ fn check_expression(alloc: Global, line: u32, scope: &Scope, expr: &Expr) -> Res
             check_condition(alloc, line, &scope.params, cond.get())?;
             check_expression(alloc, line, scope, inner.get())
         }
-        Expr::Overlay(list) => {
-            'over: for member in list.members() {
-                check_expression(alloc, line, scope, member)?;
-            }
-            Ok(())
-        }
-        Expr::Sequence(list) => {
-            'line: for member in list.members() {
-                check_expression(alloc, line, scope, member)?;
-            }
-            Ok(())
+        Expr::Overlay(list) | Expr::Sequence(list) => {
+            check_expressions(alloc, line, scope, list.members())
         }
     }
+}
+
+/// Tells the first use in expressions that is not known.
+#[cycle(expression)]
+fn check_expressions(
+    alloc: Global,
+    line: u32,
+    scope: &Scope,
+    members: &[Expr],
+) -> Result<(), NameFault>
+    ensures ok { OnOk result (flat_map (expr_faults line scope.now) members.now ≡ []) }
+    ensures err { IfErr result (IsFirst (flat_map (expr_faults line scope.now) members.now)) }
+{
+    'members: for member in members {
+        check_expression(alloc, line, scope, member)?;
+    }
+    Ok(())
 }
 
 /// Puts names last, or tells the first that is there already.
@@ -229,7 +245,7 @@ fn enter(
     }
 }
 
-/// The names that a file defines, or the first fault.
+/// The names that a file defines, or the first fault of names, by line, and within a line by place.
 pub(crate) fn scope_of(alloc: Global, file: &File) -> Result<Scope, NameFault>
     ensures ok { IfOk result (λ _. name_faults file.now ≡ []) }
     ensures scope { IfOk result (λ scope. scope ≡ scope_from nothing file.now.statements) }
@@ -244,17 +260,4 @@ pub(crate) fn scope_of(alloc: Global, file: &File) -> Result<Scope, NameFault>
         enter(alloc, file.line(i), &mut scope, file.statement(i))?;
     }
     Ok(scope)
-}
-
-/// Tells the first fault of the names in a file, by line, and within a line by place.
-///
-/// # Errors
-///
-/// `Duplicate`, `UnknownGraph` or `UnknownParam` with the number of the line and the name; `Memory` where none is left.
-pub fn check_names(alloc: Global, file: &File) -> Result<(), NameFault>
-    ensures ok { OnOk result (name_faults file.now ≡ []) }
-    ensures err { IfErr result (IsNameFault file.now) }
-{
-    scope_of(alloc, file)?;
-    Ok(())
 }

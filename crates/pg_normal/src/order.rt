@@ -10,7 +10,7 @@ use std::marker::Model;
 
 /// Different operations in a row.
 #[derive(Drop)]
-pub struct Order {
+pub(crate) struct Order {
     set: IndexSet<u32>,
 }
 

@@ -9,7 +9,7 @@ use std::marker::Model;
 
 /// A table for each operation, by its number.
 #[derive(Drop)]
-pub struct Row {
+pub(crate) struct Row {
     tables: Vec<u64>,
 }
 

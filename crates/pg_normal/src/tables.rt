@@ -11,7 +11,7 @@ use std::alloc::Global;
 
 /// The operations in the order of first appearance, their tables, and for each second end those of arcs.
 #[derive(Drop)]
-pub struct Tables {
+pub(crate) struct Tables {
     pub(crate) order: Order,
     pub(crate) vertices: Row,
     pub(crate) arcs: Items<Row>,

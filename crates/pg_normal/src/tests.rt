@@ -1,6 +1,5 @@
 use crate::{
-    InstanceFault, NameFault, NormalForm, Partial, check_names, instance, normals, write_form,
-    write_normal,
+    InstanceFault, NameFault, NormalForm, Partial, instance, normals, write_form, write_normal,
 };
 use cpog_base::{Memory, Names};
 use pg_algebra::Table;
@@ -41,7 +40,7 @@ fn is_fault(alloc: Global, text: &str, kind: u8, at: u32, told: &str) -> bool {
     let Ok(file) = read_file(alloc, text.as_bytes()) else {
         return false;
     };
-    match check_names(alloc, &file) {
+    match normals(alloc, &file) {
         Err(NameFault::Duplicate { line, name }) => {
             kind == 0 && line == at && name.as_str() == told
         }
@@ -63,7 +62,7 @@ fn is_in_order(alloc: Global, text: &str) -> bool {
     let Ok(file) = read_file(alloc, text.as_bytes()) else {
         return false;
     };
-    check_names(alloc, &file).is_ok()
+    normals(alloc, &file).is_ok()
 }
 
 #[test]

@@ -1,42 +1,16 @@
 //! A form is written as its terms, each behind the condition under which it occurs.
-ghost use Rattle.std.specs.Prelude.{◌≡◌, ◌++◌, ◌<◌, [], codes, map, IfOk, OnOk};
+ghost use Rattle.std.specs.Prelude.{◌≡◌, ◌++◌, ◌<◌, codes, map, IfOk, OnOk};
 ghost use Rattle.std.specs.List.{flat_map};
-ghost use Rattle.std.proofs.Common.{get_or};
 ghost use Rattle.cpog_defs.specs.Codes.{bit};
-ghost use Rattle.pg_normal.specs.Forms.{vertex_table, arc_table};
-ghost use Rattle.pg_normal.specs.Writing.{when_needed, following, joined, depends, needed, sets_needed, chosen, literal_text, valuation_text, valuations_text, prefix_text, arc_text, vertex_term, arc_terms, arc_terms_from, vertices_of, form_text};
+ghost use Rattle.pg_text.specs.Writing.{rest_text, row_text};
+ghost use Rattle.pg_normal.specs.Writing.{depends, needed, sets_needed, chosen, literal_text, valuation_text, valuations_text, prefix_text, arc_text, vertex_term, arc_terms, arc_terms_from, vertices_of, form_text};
 
 use crate::NormalForm;
 use crate::instances::{is_set, value_at};
 use cpog_base::{Memory, Names};
 use pg_algebra::Table;
+use pg_text::{name_of, put, put_if};
 use std::alloc::Global;
-
-/// Puts the bytes last.
-pub(crate) fn put(out: &mut Vec<u8>, text: &[u8]) -> Result<(), Memory>
-    ensures { OnOk result (out.new.items ≡ out.old.items ++ text.now) }
-{
-    out.extend_from_slice(text)?;
-    Ok(())
-}
-
-/// Puts the bytes last where they are needed.
-pub(crate) fn put_if(out: &mut Vec<u8>, is_needed: bool, text: &[u8]) -> Result<(), Memory>
-    ensures { OnOk result (out.new.items ≡ out.old.items ++ when_needed is_needed text.now) }
-{
-    if is_needed { put(out, text) } else { Ok(()) }
-}
-
-/// The name at a place, and nothing for a place without a name.
-pub(crate) fn name_of(names: &Names, place: u32) -> &str
-    ensures { result.now ≡ get_or names.now place [] }
-{
-    if place < names.len() {
-        names.get(place)
-    } else {
-        ""
-    }
-}
 
 /// Whether the value of the table changes with parameter k.
 fn depends_on(table: Table, k: u8) -> bool
@@ -179,7 +153,7 @@ fn put_pair(
     u: u32,
     v: u32,
 ) -> Result<(), Memory>
-    ensures { OnOk result (out.new.items ≡ out.old.items ++ following (codes " + ") (arc_terms form.now names.now params.now u v)) }
+    ensures { OnOk result (out.new.items ≡ out.old.items ++ rest_text (codes " + ") (arc_terms form.now names.now params.now u v)) }
 {
     let table = form.arc_table(u, v);
     if table.0 == 0 {
@@ -199,7 +173,7 @@ fn put_vertices(
     params: &Names,
     vertices: &[u32],
 ) -> Result<(), Memory>
-    ensures { OnOk result (out.new.items ≡ out.old.items ++ joined (codes " + ") (map (vertex_term form.now names.now params.now) vertices.now)) }
+    ensures { OnOk result (out.new.items ≡ out.old.items ++ row_text (codes " + ") (map (vertex_term form.now names.now params.now) vertices.now)) }
 {
     'vertices: for (i, v) in vertices.iter().enumerate() {
         put_if(out, i > 0, b" + ")?;
@@ -218,7 +192,7 @@ fn put_arcs_from(
     vertices: &[u32],
     u: u32,
 ) -> Result<(), Memory>
-    ensures { OnOk result (out.new.items ≡ out.old.items ++ following (codes " + ") (arc_terms_from form.now names.now params.now vertices.now u)) }
+    ensures { OnOk result (out.new.items ≡ out.old.items ++ rest_text (codes " + ") (arc_terms_from form.now names.now params.now vertices.now u)) }
 {
     'seconds: for v in vertices.iter() {
         put_pair(alloc, out, form, names, params, u, *v)?;
@@ -235,7 +209,7 @@ fn put_arcs(
     params: &Names,
     vertices: &[u32],
 ) -> Result<(), Memory>
-    ensures { OnOk result (out.new.items ≡ out.old.items ++ following (codes " + ") (flat_map (arc_terms_from form.now names.now params.now vertices.now) vertices.now)) }
+    ensures { OnOk result (out.new.items ≡ out.old.items ++ rest_text (codes " + ") (flat_map (arc_terms_from form.now names.now params.now vertices.now) vertices.now)) }
 {
     'firsts: for u in vertices.iter() {
         put_arcs_from(alloc, out, form, names, params, vertices, *u)?;

@@ -1,10 +1,10 @@
 -- The texts of trees, by the lists of their members.
-use Rattle.std.specs.Prelude.{◌≡◌, ◌<◌, ◌≤◌, ◌+◌, refl, ℕ, Bool, true, List, [], ◌∷◌, ◌++◌, map, take, length, codes, nat_lt}
+use Rattle.std.specs.Prelude.{◌≡◌, ◌<◌, ◌+◌, refl, ℕ, Bool, true, List, [], ◌∷◌, ◌++◌, map, take, length, codes, nat_lt}
 use Rattle.std.proofs.Common.{ap, ap₂, sym, suc, arith, ◌∙◌, append_assoc, append-nil, get_or, subst}
 use Rattle.std.proofs.lemmas.Bool.Decides.{nat_tests}
 use Rattle.std.specs.Result.{OnOk}
 use Rattle.std.specs.declared.result.Result.{Result}
-use Rattle.std.proofs.lemmas.List.{take_more, take_all, length-take-le, length-map, map-append}
+use Rattle.std.proofs.lemmas.List.{take_more, length-take-le, length-map, map-append}
 use denote.Hole.Carrier.{hidden}
 use Rattle.pg_algebra.specs.declared.cond.Cond.{Cond}
 use Rattle.pg_algebra.specs.declared.cond.Cond.TheBlock.{hidden-the_row-Cond-1}
@@ -63,6 +63,13 @@ text-Sequence names p es = ap (placed p product) (expr_row-members names (codes 
 
 -- ---- one member more
 
+pub rest_append : (sign : List ℕ) (ts us : List (List ℕ)) → rest_text sign (ts ++ us) ≡ rest_text sign ts ++ rest_text sign us
+rest_append sign [] us = refl
+rest_append sign (t ∷ ts) us =
+    ap (λ x. sign ++ (t ++ x)) (rest_append sign ts us)
+    ∙ ap (λ x. sign ++ x) (sym (append_assoc t (rest_text sign ts) (rest_text sign us)))
+    ∙ sym (append_assoc sign (t ++ rest_text sign ts) (rest_text sign us))
+
 rest_more : (sign t : List ℕ) (ts : List (List ℕ)) → rest_text sign (ts ++ t ∷ []) ≡ rest_text sign ts ++ (sign ++ t)
 rest_more sign t [] = ap (λ x. sign ++ x) (append-nil t)
 rest_more sign t (u ∷ us) =
@@ -90,13 +97,13 @@ put_more f sign xs i x d start out middle next lt is before between last =
     last ∙ ap (λ m. m ++ f x) (between ∙ ap (λ o. o ++ when_needed (nat_lt 0 i) sign) before) ∙ append_assoc (start ++ row_text sign (map f (take i xs))) (when_needed (nat_lt 0 i) sign) (f x)
     ∙ append_assoc start (row_text sign (map f (take i xs))) (when_needed (nat_lt 0 i) sign ++ f x) ∙ ap (λ t. start ++ t) (sym more)
 
--- all members are put, between the parentheses that are needed
-pub put_all : {X : Type 0} (f : X → List ℕ) (sign : List ℕ) (xs : List X) (i : ℕ) (old start out : List ℕ) (a b n : Bool) (left right : List ℕ) → start ≡ old ++ when_needed a left
-    → out ≡ start ++ row_text sign (map f (take i xs)) → length xs ≤ i → a ≡ n → b ≡ n → out ++ when_needed b right ≡ old ++ (when_needed n left ++ (row_text sign (map f xs) ++ when_needed n right))
-put_all f sign xs i old start out a b n left right opens puts all e h =
-    ap₂ (λ o c. o ++ when_needed c right) (puts ∙ ap₂ (λ s l. s ++ row_text sign (map f l)) (opens ∙ ap (λ c. old ++ when_needed c left) e) (take_all i xs all)) h
-    ∙ append_assoc (old ++ when_needed n left) (row_text sign (map f xs)) (when_needed n right)
-    ∙ append_assoc old (when_needed n left) (row_text sign (map f xs) ++ when_needed n right)
+-- a row is put between the parentheses that are needed
+pub put_placed : (old text start out : List ℕ) (a b n : Bool) (left right : List ℕ) → start ≡ old ++ when_needed a left → out ≡ start ++ text → a ≡ n → b ≡ n
+    → out ++ when_needed b right ≡ old ++ (when_needed n left ++ (text ++ when_needed n right))
+put_placed old text start out a b n left right opens puts e h =
+    ap₂ (λ o c. o ++ when_needed c right) (puts ∙ ap (λ s. s ++ text) (opens ∙ ap (λ c. old ++ when_needed c left) e)) h
+    ∙ append_assoc (old ++ when_needed n left) text (when_needed n right)
+    ∙ append_assoc old (when_needed n left) (text ++ when_needed n right)
 
 pub on_ok : {A E : Type 0} (r : Result A E) (a b c : List ℕ) → b ≡ c → OnOk r (a ≡ b) → OnOk r (a ≡ c)
 on_ok r a b c e h = subst (λ x. OnOk r (a ≡ x)) e h

@@ -1,7 +1,7 @@
 -- What is read at the front of some bytes, and the rest.
-use Rattle.std.specs.Prelude.{◌≡◌, ℕ, List}
+use Rattle.std.specs.Prelude.{◌≡◌, ℕ, List, ◌∷◌}
 use Rattle.pg_text.specs.Tokens.{Token, sign, BeginsWith, BeginsWithAll}
-use Rattle.pg_text.specs.Grammar.{Side, Level, factor, row, product, sum, Phrase, joint, tokens, IsWithin, Tree, tree, names_after}
+use Rattle.pg_text.specs.Grammar.{Side, Row, Level, factor, row, product, sum, Phrase, joint, tokens, IsWithin, Tree, join, members, tree, names_after}
 
 -- the token does not come next
 abbrev pub Lacks : Token → List ℕ → Type 0
@@ -25,6 +25,13 @@ pub record Reads (s : Side) (l : Level) (room : ℕ) (names : List (List ℕ)) (
   pub front : IsAtFront room bytes phrase rest
   pub means : t ≡ tree names phrase
   pub named : names_new ≡ names_after names phrase
+
+-- a row stands at the front, and this is the tree of the row with one member more before it
+pub record ReadsMore (s : Side) (r : Row) (room : ℕ) (names : List (List ℕ)) (first : Tree s) (bytes : List ℕ) (t : Tree s) (names_new : List (List ℕ)) (rest : List ℕ) : Type 0 where
+  pub others : Phrase s (row r)
+  pub front : IsAtFront room bytes others rest
+  pub means : t ≡ join s (row r) (first ∷ members names others)
+  pub named : names_new ≡ names_after names others
 
 -- no phrase of the kind stands at the front
 abbrev pub ReadsNone : Side → Level → ℕ → List ℕ → Type 0

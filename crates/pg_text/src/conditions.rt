@@ -1,10 +1,10 @@
 //! Conditions are read from the front of a line. `room` is how many levels of nesting are left.
-ghost use Rattle.std.specs.Prelude.{◌≡◌, ◌<◌, ◌≤◌, List, ℕ, [], length, IfOk, IfErr, MatchOption, IfSome};
+ghost use Rattle.std.specs.Prelude.{◌≡◌, ◌<◌, ◌≤◌, [], length, IfOk, IfErr, MatchOption, IfSome};
 ghost use Rattle.pg_text.specs.declared.sign.Sign.TheVariants as signs;
 ghost use Rattle.pg_text.specs.Faults.{IsDue};
 ghost use Rattle.pg_text.specs.Tokens.{sign as sign_token};
 ghost use Rattle.pg_text.specs.Grammar.{condition, row, product, sum, factor, join};
-ghost use Rattle.pg_text.specs.Reading.{Lacks, Reads, ReadsNone};
+ghost use Rattle.pg_text.specs.Reading.{Lacks, Reads, ReadsMore, ReadsNone};
 
 use crate::fault::LineFault;
 use crate::sign::Sign;
@@ -14,28 +14,22 @@ use pg_algebra::{Cond, CondList};
 use sqlite_items::Boxed;
 use std::alloc::Global;
 
-/// One member for itself, or the condition that each of two or more holds.
+/// The condition that each of two or more holds.
 fn all_of(mut members: Vec<Cond>) -> Cond
-    requires { 0 < length members.items }
+    requires { 2 ≤ length members.items }
     ensures { result ≡ join condition (row product) members.items }
 {
-    if members.len() == 1 {
-        members.pop().unwrap()
-    } else {
-        Cond::And(CondList::new(members))
-    }
+    members.shrink_to_fit();
+    Cond::And(CondList::new(members))
 }
 
-/// One member for itself, or the condition that one of two or more holds.
+/// The condition that one of two or more holds.
 fn any_of(mut members: Vec<Cond>) -> Cond
-    requires { 0 < length members.items }
+    requires { 2 ≤ length members.items }
     ensures { result ≡ join condition (row sum) members.items }
 {
-    if members.len() == 1 {
-        members.pop().unwrap()
-    } else {
-        Cond::Or(CondList::new(members))
-    }
+    members.shrink_to_fit();
+    Cond::Or(CondList::new(members))
 }
 
 /// The negated operand, where `!` comes next.
@@ -107,18 +101,20 @@ fn operand_at<'a>(alloc: Global, bytes: &'a [u8], room: u32) -> Result<(Cond, &'
     Err(LineFault::Bad)
 }
 
-/// The row of `&` at the front, and what follows it.
+/// The row of `&` that begins with `first`: the others at the front, and what follows them.
 #[cycle(condition)]
-fn conjunction_at<'a>(
+fn more_operands_at<'a>(
     alloc: Global,
+    first: Cond,
     bytes: &'a [u8],
     room: u32,
 ) -> Result<(Cond, &'a [u8]), LineFault>
-    ensures found { IfOk result (λ p. Reads condition (row product) room [] bytes.now p.0 [] p.1.now) }
+    ensures found { IfOk result (λ p. ReadsMore condition product room [] first bytes.now p.0 [] p.1.now) }
     ensures shorter { IfOk result (λ p. length p.1.now < length bytes.now) }
     ensures err { IfErr result (IsDue (ReadsNone condition (row product) room bytes.now)) }
 {
-    let mut members = Vec::new(alloc);
+    let mut members = Vec::with_capacity(alloc, 2)?;
+    members.push(first)?;
     let mut left = bytes;
     'members: loop {
         let (member, after) = operand_at(alloc, left, room)?;
@@ -130,18 +126,39 @@ fn conjunction_at<'a>(
     }
 }
 
-/// The condition at the front, and what follows it.
+/// The row of `&` at the front, and what follows it.
 #[cycle(condition)]
-pub fn condition_at<'a>(
+fn conjunction_at<'a>(
     alloc: Global,
     bytes: &'a [u8],
     room: u32,
 ) -> Result<(Cond, &'a [u8]), LineFault>
-    ensures found { IfOk result (λ p. Reads condition (row sum) room [] bytes.now p.0 [] p.1.now) }
+    ensures found { IfOk result (λ p. Reads condition (row product) room [] bytes.now p.0 [] p.1.now) }
+    ensures shorter { IfOk result (λ p. length p.1.now < length bytes.now) }
+    ensures err { IfErr result (IsDue (ReadsNone condition (row product) room bytes.now)) }
+{
+    let (first, after) = operand_at(alloc, bytes, room)?;
+    let Some(others) = after_sign(after, Sign::And) else {
+        return Ok((first, after));
+    };
+    let (whole, rest) = more_operands_at(alloc, first, others, room)?;
+    Ok((whole, rest))
+}
+
+/// The row of `|` that begins with `first`: the others at the front, and what follows them.
+#[cycle(condition)]
+fn more_conjunctions_at<'a>(
+    alloc: Global,
+    first: Cond,
+    bytes: &'a [u8],
+    room: u32,
+) -> Result<(Cond, &'a [u8]), LineFault>
+    ensures found { IfOk result (λ p. ReadsMore condition sum room [] first bytes.now p.0 [] p.1.now) }
     ensures shorter { IfOk result (λ p. length p.1.now < length bytes.now) }
     ensures err { IfErr result (IsDue (ReadsNone condition (row sum) room bytes.now)) }
 {
-    let mut members = Vec::new(alloc);
+    let mut members = Vec::with_capacity(alloc, 2)?;
+    members.push(first)?;
     let mut left = bytes;
     'members: loop {
         let (member, after) = conjunction_at(alloc, left, room)?;
@@ -151,4 +168,23 @@ pub fn condition_at<'a>(
             None => return Ok((any_of(members), after)),
         }
     }
+}
+
+/// The condition at the front, and what follows it.
+#[cycle(condition)]
+pub(crate) fn condition_at<'a>(
+    alloc: Global,
+    bytes: &'a [u8],
+    room: u32,
+) -> Result<(Cond, &'a [u8]), LineFault>
+    ensures found { IfOk result (λ p. Reads condition (row sum) room [] bytes.now p.0 [] p.1.now) }
+    ensures shorter { IfOk result (λ p. length p.1.now < length bytes.now) }
+    ensures err { IfErr result (IsDue (ReadsNone condition (row sum) room bytes.now)) }
+{
+    let (first, after) = conjunction_at(alloc, bytes, room)?;
+    let Some(others) = after_sign(after, Sign::Or) else {
+        return Ok((first, after));
+    };
+    let (whole, rest) = more_conjunctions_at(alloc, first, others, room)?;
+    Ok((whole, rest))
 }

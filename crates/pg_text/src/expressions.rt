@@ -8,7 +8,7 @@ ghost use Rattle.pg_text.specs.declared.sign.Sign.TheVariants as signs;
 ghost use Rattle.pg_text.specs.Faults.{IsDue};
 ghost use Rattle.pg_text.specs.Tokens.{sign as sign_token};
 ghost use Rattle.pg_text.specs.Grammar.{graph, row, product, sum, factor, join};
-ghost use Rattle.pg_text.specs.Reading.{Lacks, Reads, ReadsNone};
+ghost use Rattle.pg_text.specs.Reading.{Lacks, Reads, ReadsMore, ReadsNone};
 
 use crate::conditions::condition_at;
 use crate::fault::LineFault;
@@ -19,28 +19,22 @@ use pg_algebra::{Expr, ExprList};
 use sqlite_items::Boxed;
 use std::alloc::Global;
 
-/// One member for itself, or the sequence of two or more.
+/// The sequence of two or more.
 fn sequence_of(mut members: Vec<Expr>) -> Expr
-    requires { 0 < length members.items }
+    requires { 2 ≤ length members.items }
     ensures { result ≡ join graph (row product) members.items }
 {
-    if members.len() == 1 {
-        members.pop().unwrap()
-    } else {
-        Expr::Sequence(ExprList::new(members))
-    }
+    members.shrink_to_fit();
+    Expr::Sequence(ExprList::new(members))
 }
 
-/// One member for itself, or the overlay of two or more.
+/// The overlay of two or more.
 fn overlay_of(mut members: Vec<Expr>) -> Expr
-    requires { 0 < length members.items }
+    requires { 2 ≤ length members.items }
     ensures { result ≡ join graph (row sum) members.items }
 {
-    if members.len() == 1 {
-        members.pop().unwrap()
-    } else {
-        Expr::Overlay(ExprList::new(members))
-    }
+    members.shrink_to_fit();
+    Expr::Overlay(ExprList::new(members))
 }
 
 /// The number of an operation, which is the next one where the name is new.
@@ -161,6 +155,34 @@ fn factor_at<'a>(
     Err(LineFault::Bad)
 }
 
+/// The sequence that begins with `first`: the others at the front, and what follows them.
+#[cycle(expression)]
+fn more_factors_at<'a>(
+    alloc: Global,
+    operations: &mut Names,
+    first: Expr,
+    bytes: &'a [u8],
+    room: u32,
+) -> Result<(Expr, &'a [u8]), LineFault>
+    requires { length operations.old + length bytes.now < 2 ^ 32 - 1 }
+    ensures found { IfOk result (λ p. ReadsMore graph product room operations.old first bytes.now p.0 operations.new p.1.now) }
+    ensures numbers { IfOk result (λ p. length operations.new + length p.1.now ≤ length operations.old + length bytes.now) }
+    ensures shorter { IfOk result (λ p. length p.1.now < length bytes.now) }
+    ensures err { IfErr result (IsDue (ReadsNone graph (row product) room bytes.now)) }
+{
+    let mut members = Vec::with_capacity(alloc, 2)?;
+    members.push(first)?;
+    let mut left = bytes;
+    'members: loop {
+        let (member, after) = factor_at(alloc, operations, left, room)?;
+        members.push(member)?;
+        match after_sign(after, Sign::Arrow) {
+            Some(rest) => left = rest,
+            None => return Ok((sequence_of(members), after)),
+        }
+    }
+}
+
 /// The sequence at the front, and what follows it.
 #[cycle(expression)]
 fn sequence_at<'a>(
@@ -175,21 +197,45 @@ fn sequence_at<'a>(
     ensures shorter { IfOk result (λ p. length p.1.now < length bytes.now) }
     ensures err { IfErr result (IsDue (ReadsNone graph (row product) room bytes.now)) }
 {
-    let mut members = Vec::new(alloc);
+    let (first, after) = factor_at(alloc, operations, bytes, room)?;
+    let Some(others) = after_sign(after, Sign::Arrow) else {
+        return Ok((first, after));
+    };
+    let (whole, rest) = more_factors_at(alloc, operations, first, others, room)?;
+    Ok((whole, rest))
+}
+
+/// The overlay that begins with `first`: the others at the front, and what follows them.
+#[cycle(expression)]
+fn more_sequences_at<'a>(
+    alloc: Global,
+    operations: &mut Names,
+    first: Expr,
+    bytes: &'a [u8],
+    room: u32,
+) -> Result<(Expr, &'a [u8]), LineFault>
+    requires { length operations.old + length bytes.now < 2 ^ 32 - 1 }
+    ensures found { IfOk result (λ p. ReadsMore graph sum room operations.old first bytes.now p.0 operations.new p.1.now) }
+    ensures numbers { IfOk result (λ p. length operations.new + length p.1.now ≤ length operations.old + length bytes.now) }
+    ensures shorter { IfOk result (λ p. length p.1.now < length bytes.now) }
+    ensures err { IfErr result (IsDue (ReadsNone graph (row sum) room bytes.now)) }
+{
+    let mut members = Vec::with_capacity(alloc, 2)?;
+    members.push(first)?;
     let mut left = bytes;
     'members: loop {
-        let (member, after) = factor_at(alloc, operations, left, room)?;
+        let (member, after) = sequence_at(alloc, operations, left, room)?;
         members.push(member)?;
-        match after_sign(after, Sign::Arrow) {
+        match after_sign(after, Sign::Plus) {
             Some(rest) => left = rest,
-            None => return Ok((sequence_of(members), after)),
+            None => return Ok((overlay_of(members), after)),
         }
     }
 }
 
 /// The expression at the front, and what follows it.
 #[cycle(expression)]
-pub fn expression_at<'a>(
+pub(crate) fn expression_at<'a>(
     alloc: Global,
     operations: &mut Names,
     bytes: &'a [u8],
@@ -201,14 +247,10 @@ pub fn expression_at<'a>(
     ensures shorter { IfOk result (λ p. length p.1.now < length bytes.now) }
     ensures err { IfErr result (IsDue (ReadsNone graph (row sum) room bytes.now)) }
 {
-    let mut members = Vec::new(alloc);
-    let mut left = bytes;
-    'members: loop {
-        let (member, after) = sequence_at(alloc, operations, left, room)?;
-        members.push(member)?;
-        match after_sign(after, Sign::Plus) {
-            Some(rest) => left = rest,
-            None => return Ok((overlay_of(members), after)),
-        }
-    }
+    let (first, after) = sequence_at(alloc, operations, bytes, room)?;
+    let Some(others) = after_sign(after, Sign::Plus) else {
+        return Ok((first, after));
+    };
+    let (whole, rest) = more_sequences_at(alloc, operations, first, others, room)?;
+    Ok((whole, rest))
 }

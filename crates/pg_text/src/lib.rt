@@ -4,10 +4,11 @@
 //!
 //! Lines are split off the text (`lines`) and tokens are taken from the front of a line (`tokens`), so that no list of
 //! either is built. Out of tokens conditions (`conditions`), expressions (`expressions`), statements (`statements`) and
-//! the file (`reading`) are read, and `writing` goes the other way. The grammar is a data type of what stands in a line:
-//! a derivation of its rules, with its tokens, its levels and its tree as functions of it. The crate promises that a file
-//! is read exactly where the grammar has one within the counts, and then that file; that else the first bad line or the
-//! first count that passes its limit is told; and that what is written is read as the same statements.
+//! the file (`reading`) are read, and `writing` goes the other way, out of the parts of `putting`. The grammar is a data
+//! type of what stands in a line: a derivation of its rules, with its tokens, its levels and its tree as functions of it.
+//! The crate promises that a file is read exactly where the grammar has one within the counts, and then that file; that
+//! else the first bad line or the first count that passes its limit is told; and that what is written is read as the same
+//! statements.
 #![tactic(auto)]
 
 mod conditions;
@@ -17,6 +18,7 @@ mod file;
 mod laws;
 mod lines;
 mod place;
+mod putting;
 mod reading;
 mod sign;
 mod statement;
@@ -29,9 +31,7 @@ mod writing;
 pub use fault::FileFault;
 pub use file::File;
 pub use laws::{file_has_no_fault, numbers_stand_for_names, one_fault, one_file};
-pub use lines::next_graph_line;
+pub use putting::{name_of, put, put_if, text_of_bindings};
 pub use reading::read_file;
-pub use sign::{Fixed, Sign};
 pub use statement::{Bindings, NameList, Numbered, Statement};
-pub use tokens::{after_sign, after_word, is_ended, name_at};
 pub use writing::write_file;

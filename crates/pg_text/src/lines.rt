@@ -16,7 +16,7 @@ fn trim_return(line: &[u8]) -> &[u8]
 }
 
 /// The first line without its carriage return, and the text after its line feed.
-pub fn next_graph_line(bytes: &[u8]) -> Option<(&[u8], &[u8])>
+pub(crate) fn next_graph_line(bytes: &[u8]) -> Option<(&[u8], &[u8])>
     ensures lines { MatchOption result (graph_lines bytes.now ≡ []) (λ x. graph_lines bytes.now ≡ x.0.now ∷ graph_lines x.1.now) }
     ensures parts { IfSome result (λ x. length x.0.now + length x.1.now ≤ length bytes.now) }
     ensures shorter { IfSome result (λ x. length x.1.now < length bytes.now) }

@@ -4,7 +4,7 @@ ghost use Rattle.pg_text.specs.Writing.{needs};
 
 /// What may stand in a place of the written text without parentheses.
 #[derive(Clone, Copy, Debug, PartialEq, Eq)]
-pub enum Place {
+pub(crate) enum Place {
     /// A sum, a product or a factor.
     Sum,
     /// A product or a factor.

@@ -51,6 +51,7 @@ fn read_lines(alloc: Global, bytes: &[u8]) -> Result<(Vec<Numbered>, Names), Fil
         keep(&mut statements, number, statement)?;
         rest = after;
     }
+    statements.shrink_to_fit();
     Ok((statements, operations))
 }
 

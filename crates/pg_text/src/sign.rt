@@ -1,6 +1,6 @@
 /// The signs of the graph text.
 #[derive(Clone, Copy, Debug, PartialEq, Eq)]
-pub enum Sign {
+pub(crate) enum Sign {
     /// `(`
     Open,
     /// `)`
@@ -29,7 +29,7 @@ pub enum Sign {
 
 /// The words that stand for themselves: the keywords and the bits.
 #[derive(Clone, Copy, Debug, PartialEq, Eq)]
-pub enum Fixed {
+pub(crate) enum Fixed {
     Params,
     Graph,
     Scenario,

@@ -20,9 +20,10 @@ impl Model for NameList {
 }
 
 impl NameList {
-    pub(crate) fn new(names: Vec<Name>) -> NameList
+    pub(crate) fn new(mut names: Vec<Name>) -> NameList
         ensures { result ≡ names.items }
     {
+        names.shrink_to_fit();
         NameList {
             names: Items::from_vec(names),
         }
@@ -51,9 +52,10 @@ impl Model for Bindings {
 }
 
 impl Bindings {
-    pub(crate) fn new(bits: Vec<(Name, bool)>) -> Bindings
+    pub(crate) fn new(mut bits: Vec<(Name, bool)>) -> Bindings
         ensures { result ≡ bits.items }
     {
+        bits.shrink_to_fit();
         Bindings {
             bits: Items::from_vec(bits),
         }

@@ -196,7 +196,7 @@ fn statement_at(alloc: Global, operations: &mut Names, line: &[u8]) -> Result<St
 }
 
 /// The statement of a line, if it has one. Operations that are new get the next numbers.
-pub fn read_line(
+pub(crate) fn read_line(
     alloc: Global,
     operations: &mut Names,
     line: &[u8],

@@ -54,7 +54,7 @@ fn is_comment(bytes: &[u8]) -> bool
 }
 
 /// Whether no token is left: blanks alone, or blanks and a comment.
-pub fn is_ended(bytes: &[u8]) -> bool
+pub(crate) fn is_ended(bytes: &[u8]) -> bool
     ensures { MatchBool result (HasNoToken bytes.now) (HasNoToken bytes.now → ⊥) }
 {
     let (_, after) = split_blanks(bytes);
@@ -62,7 +62,7 @@ pub fn is_ended(bytes: &[u8]) -> bool
 }
 
 /// How the sign is spelled.
-pub fn text_of_sign(sign: Sign) -> &'static [u8]
+pub(crate) fn text_of_sign(sign: Sign) -> &'static [u8]
     ensures { result.now ≡ sign_text sign }
 {
     match sign {
@@ -82,7 +82,7 @@ pub fn text_of_sign(sign: Sign) -> &'static [u8]
 }
 
 /// How the keyword or the bit is spelled.
-pub fn text_of_word(word: Fixed) -> &'static [u8]
+pub(crate) fn text_of_word(word: Fixed) -> &'static [u8]
     ensures { result.now ≡ word_text word }
 {
     match word {
@@ -104,7 +104,7 @@ fn strip_sign(bytes: &[u8], sign: Sign) -> Option<&[u8]>
 }
 
 /// What follows the sign, where it comes next.
-pub fn after_sign(bytes: &[u8], sign: Sign) -> Option<&[u8]>
+pub(crate) fn after_sign(bytes: &[u8], sign: Sign) -> Option<&[u8]>
     ensures cases { MatchOption result ((rest : List ℕ) → BeginsWith bytes.now (sign_token sign) rest → ⊥) (λ rest. BeginsWith bytes.now (sign_token sign) rest.now) }
     ensures shorter { IfSome result (λ rest. length rest.now < length bytes.now) }
 {
@@ -113,7 +113,7 @@ pub fn after_sign(bytes: &[u8], sign: Sign) -> Option<&[u8]>
 }
 
 /// What follows the keyword or the bit, where it comes next.
-pub fn after_word(bytes: &[u8], word: Fixed) -> Option<&[u8]>
+pub(crate) fn after_word(bytes: &[u8], word: Fixed) -> Option<&[u8]>
     ensures cases { MatchOption result ((rest : List ℕ) → BeginsWith bytes.now (word_token word) rest → ⊥) (λ rest. BeginsWith bytes.now (word_token word) rest.now) }
     ensures shorter { IfSome result (λ rest. length rest.now < length bytes.now) }
 {
@@ -138,7 +138,7 @@ fn text_of(word: &[u8]) -> &str
 }
 
 /// The name that comes next, and what follows it.
-pub fn name_at(bytes: &[u8]) -> Option<(&str, &[u8])>
+pub(crate) fn name_at(bytes: &[u8]) -> Option<(&str, &[u8])>
     ensures cases { MatchOption result ((w : List ℕ) (rest : List ℕ) → BeginsWith bytes.now (name w) rest → ⊥) (λ p. BeginsWith bytes.now (name p.0.now) p.1.now) }
     ensures shorter { IfSome result (λ p. length p.1.now < length bytes.now) }
 {
@@ -152,7 +152,7 @@ pub fn name_at(bytes: &[u8]) -> Option<(&str, &[u8])>
 }
 
 /// The bit that comes next, and what follows it.
-pub fn bit_at(bytes: &[u8]) -> Option<(bool, &[u8])>
+pub(crate) fn bit_at(bytes: &[u8]) -> Option<(bool, &[u8])>
     ensures cases { MatchOption result ((b : Bool) (rest : List ℕ) → BeginsWith bytes.now (bit_word b) rest → ⊥) (λ p. BeginsWith bytes.now (bit_word p.0) p.1.now) }
     ensures shorter { IfSome result (λ p. length p.1.now < length bytes.now) }
 {

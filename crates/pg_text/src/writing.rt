@@ -1,51 +1,36 @@
 //! A file is written as one line for each statement, with single blanks and no parentheses but those that are needed.
-ghost use Rattle.std.specs.Prelude.{◌≡◌, ◌++◌, [], codes, map, IfOk, OnOk};
-ghost use Rattle.std.proofs.Common.{get_or};
+ghost use Rattle.std.specs.Prelude.{◌≡◌, ◌++◌, codes, map, IfOk, OnOk};
 ghost use Rattle.pg_text.specs.declared.place.Place.TheVariants as place;
 ghost use Rattle.pg_text.specs.Text.{IsFileOf};
-ghost use Rattle.pg_text.specs.Writing.{bit_text, cond_text, expr_text, with_text, statement_text, file_text, renumbered, row_text, bind_text, when_needed};
+ghost use Rattle.pg_text.specs.Writing.{cond_text, expr_text, statement_text, file_text, renumbered, row_text};
 
 use crate::file::File;
 use crate::place::Place;
+use crate::putting::{name_of, put, put_if, put_with, text_of_bit};
 use crate::statement::Statement;
 use cpog_base::{Memory, Name, Names};
 use pg_algebra::{Cond, Expr};
 use std::alloc::Global;
 
-/// Puts the bytes last.
-fn put(out: &mut Vec<u8>, text: &[u8]) -> Result<(), Memory>
-    ensures { OnOk result (out.new.items ≡ out.old.items ++ text.now) }
+/// Puts the conditions last, each as its place wants it, with the sign between them.
+#[cycle(condition)]
+fn put_conditions(
+    out: &mut Vec<u8>,
+    conditions: &[Cond],
+    place: Place,
+    sign: &[u8],
+) -> Result<(), Memory>
+    ensures { OnOk result (out.new.items ≡ out.old.items ++ row_text sign.now (map (cond_text place) conditions.now)) }
 {
-    out.extend_from_slice(text)?;
+    'conditions: for (i, condition) in conditions.iter().enumerate() {
+        put_if(out, i > 0, sign)?;
+        put_condition(out, condition, place)?;
+    }
     Ok(())
 }
 
-/// A bit as text.
-fn text_of_bit(bit: bool) -> &'static [u8]
-    ensures { result.now ≡ bit_text bit }
-{
-    if bit { b"1" } else { b"0" }
-}
-
-/// The name of an operation, and nothing for a number without a name.
-fn name_of(names: &Names, operation: u32) -> &str
-    ensures { result.now ≡ get_or names.now operation [] }
-{
-    if operation < names.len() {
-        names.get(operation)
-    } else {
-        ""
-    }
-}
-
-/// Puts the bytes last where they are needed.
-fn put_if(out: &mut Vec<u8>, is_needed: bool, text: &[u8]) -> Result<(), Memory>
-    ensures { OnOk result (out.new.items ≡ out.old.items ++ when_needed is_needed text.now) }
-{
-    if is_needed { put(out, text) } else { Ok(()) }
-}
-
 /// Puts the condition last.
+#[cycle(condition)]
 fn put_condition(out: &mut Vec<u8>, condition: &Cond, place: Place) -> Result<(), Memory>
     ensures { OnOk result (out.new.items ≡ out.old.items ++ cond_text place condition.now) }
 {
@@ -58,24 +43,37 @@ fn put_condition(out: &mut Vec<u8>, condition: &Cond, place: Place) -> Result<()
         }
         Cond::And(list) => {
             put_if(out, place.encloses_product(), b"(")?;
-            'factors: for (i, member) in list.members().iter().enumerate() {
-                put_if(out, i > 0, b" & ")?;
-                put_condition(out, member, Place::Factor)?;
-            }
+            put_conditions(out, list.members(), Place::Factor, b" & ")?;
             put_if(out, place.encloses_product(), b")")
         }
         Cond::Or(list) => {
             put_if(out, place.encloses_sum(), b"(")?;
-            'terms: for (i, member) in list.members().iter().enumerate() {
-                put_if(out, i > 0, b" | ")?;
-                put_condition(out, member, Place::Product)?;
-            }
+            put_conditions(out, list.members(), Place::Product, b" | ")?;
             put_if(out, place.encloses_sum(), b")")
         }
     }
 }
 
+/// Puts the expressions last, each as its place wants it, with the sign between them.
+#[cycle(expression)]
+fn put_expressions(
+    out: &mut Vec<u8>,
+    names: &Names,
+    exprs: &[Expr],
+    place: Place,
+    sign: &[u8],
+) -> Result<(), Memory>
+    ensures { OnOk result (out.new.items ≡ out.old.items ++ row_text sign.now (map (expr_text names.now place) exprs.now)) }
+{
+    'expressions: for (i, expr) in exprs.iter().enumerate() {
+        put_if(out, i > 0, sign)?;
+        put_expression(out, names, expr, place)?;
+    }
+    Ok(())
+}
+
 /// Puts the expression last, its operations by their names.
+#[cycle(expression)]
 fn put_expression(out: &mut Vec<u8>, names: &Names, expr: &Expr, place: Place) -> Result<(), Memory>
     ensures { OnOk result (out.new.items ≡ out.old.items ++ expr_text names.now place expr.now) }
 {
@@ -94,18 +92,12 @@ fn put_expression(out: &mut Vec<u8>, names: &Names, expr: &Expr, place: Place) -
         }
         Expr::Overlay(list) => {
             put_if(out, place.encloses_sum(), b"(")?;
-            'terms: for (i, member) in list.members().iter().enumerate() {
-                put_if(out, i > 0, b" + ")?;
-                put_expression(out, names, member, Place::Product)?;
-            }
+            put_expressions(out, names, list.members(), Place::Product, b" + ")?;
             put_if(out, place.encloses_sum(), b")")
         }
         Expr::Sequence(list) => {
             put_if(out, place.encloses_product(), b"(")?;
-            'factors: for (i, member) in list.members().iter().enumerate() {
-                put_if(out, i > 0, b" -> ")?;
-                put_expression(out, names, member, Place::Factor)?;
-            }
+            put_expressions(out, names, list.members(), Place::Factor, b" -> ")?;
             put_if(out, place.encloses_product(), b")")
         }
     }
@@ -120,35 +112,6 @@ fn put_names(out: &mut Vec<u8>, names: &[Name]) -> Result<(), Memory>
         put(out, name.as_str().as_bytes())?;
     }
     Ok(())
-}
-
-/// Puts a name, the sign of equality and a bit last.
-fn put_binding(out: &mut Vec<u8>, binding: &(Name, bool)) -> Result<(), Memory>
-    ensures { OnOk result (out.new.items ≡ out.old.items ++ bind_text binding.now) }
-{
-    let (name, bit) = binding;
-    put(out, name.as_str().as_bytes())?;
-    put(out, b" = ")?;
-    put(out, text_of_bit(*bit))
-}
-
-/// Puts the bindings last with commas between them.
-fn put_bindings(out: &mut Vec<u8>, bindings: &[(Name, bool)]) -> Result<(), Memory>
-    ensures { OnOk result (out.new.items ≡ out.old.items ++ row_text (codes ", ") (map bind_text bindings.now)) }
-{
-    'bindings: for (i, binding) in bindings.iter().enumerate() {
-        put_if(out, i > 0, b", ")?;
-        put_binding(out, binding)?;
-    }
-    Ok(())
-}
-
-/// Puts `with` and the bindings last, where there is one.
-fn put_with(out: &mut Vec<u8>, bindings: &[(Name, bool)]) -> Result<(), Memory>
-    ensures { OnOk result (out.new.items ≡ out.old.items ++ with_text bindings.now) }
-{
-    put_if(out, !bindings.is_empty(), b" with ")?;
-    put_bindings(out, bindings)
 }
 
 /// Puts a keyword, a name, the sign of equality and an expression last.

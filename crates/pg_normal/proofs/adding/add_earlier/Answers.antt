@@ -18,5 +18,5 @@ returns-else-left-ne0-clause-graph c n h =
     let at = slice_get-get_or c.args.known.now.tables c.args.place c.index-as_slice-place.result c.requires.place ∙ ap Some (ap (λ ts. get_or ts c.args.place c.index-as_slice-place.result) (sym c.as_slice.ensures) ∙ sym c.index-as_slice-place.is) in
     earlier_added c.args.known.now c.args.place c.index-as_slice-place.result at
     c.args.guard.0 c.args.vertices.now c.unite.new.self c.args.arcs.now c.args.arcs.now n (λ v. c.unite.ensures.each v n)
-    (λ u v. arcs_there c.args.known.now c.args.place c.index-as_slice-place.result at c.args.guard.0 c.args.united.now c.args.arcs.now c.requires.united c.get.result c.and-left.result.0
+    (λ u v. arcs_there c.args.known.now c.args.place c.index-as_slice-place.result at c.args.guard.0 c.args.united.now c.args.arcs.now c.requires.rows.there c.get.result c.and-left.result.0
     c.if-left-ne0.false c.get.ensures (λ m k. c.and-left.ensures m k ∙ ap (λ b. bit c.args.guard.0 m && b) (c.not.ensures m k)) u v n h)

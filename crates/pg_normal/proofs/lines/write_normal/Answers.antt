@@ -30,13 +30,13 @@ statements-preserved c = elim c.match-statement.branch [
       (written_graph c.args.file.now c.args.normals.now.normals c.statements.i c.statements.place c.statements.out.items c.statements.invariant w.in-Graph.name w.in-Graph.expr
       (at_match c.args.file.now c.statements.i c.statement.result.now (statement.Graph w.in-Graph.name w.in-Graph.expr) c.statement.ensures.statement w.in-Graph.is)
       w.form-form.result.now c.operations-names.result.now c.in_ok-params.params w.put_definition.new.out.items w.put.new.out.items
-      w.form-form.ensures c.operations-names.ensures c.in_ok-params.ensures w.in_ok-put_definition-in-Graph.ensures w.in_ok-put-in-Graph.ensures)
+      w.form-form.ensures c.operations-names.ensures c.in_ok-params.ensures w.in_ok-put_definition-in-Graph.ensures w.in_ok-put-in-Graph.ensures.put)
   | in-Scenario+in_ok-put_definition-in-Scenario+in_ok-put_with-in-Scenario+in_ok-put-in-Scenario w ↦ written_same c.args.file.now c.args.normals.now.normals (c.statements.i + 1) (c.statements.place + 1) c.match-statement.place w.put-in-Scenario.new.out.items c.match-statement.out.items w.place-is (ap (λ v. v.items) w.out-is)
       (written_scenario c.args.file.now c.args.normals.now.normals c.statements.i c.statements.place c.statements.out.items c.statements.invariant w.in-Scenario.name w.in-Scenario.expr w.in-Scenario.bindings
       (at_match c.args.file.now c.statements.i c.statement.result.now (statement.Scenario w.in-Scenario.name w.in-Scenario.expr w.in-Scenario.bindings) c.statement.ensures.statement w.in-Scenario.is)
       w.form-form-in-Scenario.result.now c.operations-names.result.now c.in_ok-params.params w.put_definition-in-Scenario.new.out.items w.put_with.new.out.items w.put-in-Scenario.new.out.items
       w.form-form-in-Scenario.ensures c.operations-names.ensures c.in_ok-params.ensures w.in_ok-put_definition-in-Scenario.ensures
-      (w.in_ok-put_with-in-Scenario.ensures ∙ ap (λ bs. w.put_definition-in-Scenario.new.out.items ++ with_text bs) w.as_slice.ensures) w.in_ok-put-in-Scenario.ensures)
+      (w.in_ok-put_with-in-Scenario.ensures ∙ ap (λ bs. w.put_definition-in-Scenario.new.out.items ++ with_text bs) w.as_slice.ensures) w.in_ok-put-in-Scenario.ensures.put)
 ]
 
 pub returns : goal.returns

@@ -6,8 +6,14 @@ use Rattle.pg_text.proofs.conditions.+condition.Given as goal
 abbrev pub decreases-condition_at : goal.decreases-condition_at
 decreases-condition_at l = 4 * length l.bytes.now + 3
 
+abbrev pub decreases-more_conjunctions_at : goal.decreases-more_conjunctions_at
+decreases-more_conjunctions_at l = 4 * length l.bytes.now + 3
+
 abbrev pub decreases-conjunction_at : goal.decreases-conjunction_at
 decreases-conjunction_at l = 4 * length l.bytes.now + 2
+
+abbrev pub decreases-more_operands_at : goal.decreases-more_operands_at
+decreases-more_operands_at l = 4 * length l.bytes.now + 2
 
 abbrev pub decreases-operand_at : goal.decreases-operand_at
 decreases-operand_at l = 4 * length l.bytes.now + 1
@@ -18,22 +24,24 @@ decreases-group_at l = 4 * length l.bytes.now
 abbrev pub decreases-negation_at : goal.decreases-negation_at
 decreases-negation_at l = 4 * length l.bytes.now
 
-abbrev pub invariant-condition_at-members : goal.invariant-condition_at-members
-invariant-condition_at-members l = record {
-  found : FoundRow condition sum l.room [] [] l.bytes l.left l.members.items;
+abbrev pub invariant-more_conjunctions_at-members : goal.invariant-more_conjunctions_at-members
+invariant-more_conjunctions_at-members l = record {
+  found : FoundRow condition sum l.room l.fn.first [] [] l.bytes l.left l.members.items;
   only : OnlyRow condition sum l.room l.bytes l.left;
+  some : 1 ≤ length l.members.items;
   shorter : length l.left ≤ length l.bytes;
 }
 
-abbrev pub decreases-condition_at-members : goal.decreases-condition_at-members
-decreases-condition_at-members l = length l.left
+abbrev pub decreases-more_conjunctions_at-members : goal.decreases-more_conjunctions_at-members
+decreases-more_conjunctions_at-members l = length l.left
 
-abbrev pub invariant-conjunction_at-members : goal.invariant-conjunction_at-members
-invariant-conjunction_at-members l = record {
-  found : FoundRow condition product l.room [] [] l.bytes l.left l.members.items;
+abbrev pub invariant-more_operands_at-members : goal.invariant-more_operands_at-members
+invariant-more_operands_at-members l = record {
+  found : FoundRow condition product l.room l.fn.first [] [] l.bytes l.left l.members.items;
   only : OnlyRow condition product l.room l.bytes l.left;
+  some : 1 ≤ length l.members.items;
   shorter : length l.left ≤ length l.bytes;
 }
 
-abbrev pub decreases-conjunction_at-members : goal.decreases-conjunction_at-members
-decreases-conjunction_at-members l = length l.left
+abbrev pub decreases-more_operands_at-members : goal.decreases-more_operands_at-members
+decreases-more_operands_at-members l = length l.left

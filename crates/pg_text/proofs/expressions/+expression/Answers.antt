@@ -1,42 +1,76 @@
-use Rattle.std.proofs.Common.{arith}
+use Rattle.std.proofs.Common.{ap, arith, length}
 use Rattle.std.proofs.lemmas.Result.{err_from_is_err_and}
 use Rattle.pg_text.specs.Grammar.{graph, product, sum}
-use Rattle.pg_text.proofs.RowSteps.{found_more, only_more, row_ends, no_row}
+use Rattle.pg_text.proofs.RowSteps.{only_at_first, found_more, only_more, row_ends, no_row, alone, with_others, no_others}
 use Rattle.pg_text.proofs.FactorSteps.{group_too_deep, no_inside, no_close, group_read}
 use Rattle.pg_text.proofs.GraphSteps.{guard_too_deep, no_guard, no_square, no_governed, guard_read, operation_read, empty_read, no_graph}
 use Rattle.pg_text.proofs.expressions.+expression.Goals as goal
 
-pub expression_at-members-preserved : goal.expression_at-members-preserved
-expression_at-members-preserved bound c = record {
-  found = found_more graph sum c.args.room c.args.operations.now c.members.operations c.sequence_at.new.operations c.args.bytes.now c.members.left.now c.in_ok-member.after.now c.members.members.items c.push.new.self.items c.in_ok-member.member c.members.invariant.found c.members.invariant.only c.in_ok-member.ensures.found c.in_ok-push.ensures.items c.in-Some.rest.now c.in-Some.ensures.cases;
-  only = only_more graph sum c.args.room c.args.operations.now c.members.operations c.sequence_at.new.operations c.args.bytes.now c.members.left.now c.in_ok-member.after.now c.members.members.items c.push.new.self.items c.in_ok-member.member c.members.invariant.found c.members.invariant.only c.in_ok-member.ensures.found c.in_ok-push.ensures.items c.in-Some.rest.now c.in-Some.ensures.cases;
+pub more_sequences_at-members-preserved : goal.more_sequences_at-members-preserved
+more_sequences_at-members-preserved bound c = record {
+  found = found_more graph sum c.args.room c.args.first c.args.operations.now c.members.operations c.sequence_at.new.operations c.args.bytes.now c.members.left.now c.in_ok-member.after.now c.members.members.items c.push-in-members.new.self.items c.in_ok-member.member c.members.invariant.found c.members.invariant.only c.in_ok-member.ensures.found c.in_ok-push-2.ensures.items c.in-Some.rest.now c.in-Some.ensures.cases;
+  only = only_more graph sum c.args.room c.args.first c.args.operations.now c.members.operations c.sequence_at.new.operations c.args.bytes.now c.members.left.now c.in_ok-member.after.now c.members.members.items c.push-in-members.new.self.items c.in_ok-member.member c.members.invariant.found c.members.invariant.only c.in_ok-member.ensures.found c.in_ok-push-2.ensures.items c.in-Some.rest.now c.in-Some.ensures.cases;
+  some = (let is = ap length c.in_ok-push-2.ensures.items in omega (arith, is));
   shorter = omega (arith, c.members.invariant.shorter, c.in_ok-member.ensures.shorter, c.in-Some.ensures.shorter);
   numbers = omega (arith, c.members.invariant.numbers, c.in_ok-member.ensures.numbers, c.in-Some.ensures.shorter);
 }
 
-pub expression_at-returns-in-None-clause-found : goal.expression_at-returns-in-None-clause-found
-expression_at-returns-in-None-clause-found bound c = row_ends graph sum c.args.room c.args.operations.now c.members.operations c.sequence_at.new.operations c.args.bytes.now c.members.left.now c.in_ok-member.after.now c.members.members.items c.push.new.self.items c.in_ok-member.member c.members.invariant.found c.members.invariant.only c.in_ok-member.ensures.found c.in_ok-push.ensures.items c.overlay_of.result c.overlay_of.ensures c.in-None.ensures.cases
+pub more_sequences_at-returns-in-None-clause-found : goal.more_sequences_at-returns-in-None-clause-found
+more_sequences_at-returns-in-None-clause-found bound c = row_ends graph sum c.args.room c.args.first c.args.operations.now c.members.operations c.sequence_at.new.operations c.args.bytes.now c.members.left.now c.in_ok-member.after.now c.members.members.items c.push-in-members.new.self.items c.in_ok-member.member c.members.invariant.found c.members.invariant.only c.in_ok-member.ensures.found c.in_ok-push-2.ensures.items c.overlay_of.result c.overlay_of.ensures c.in-None.ensures.cases
 
-pub expression_at-returns-in_err-member-clause-err : goal.expression_at-returns-in_err-member-clause-err
-expression_at-returns-in_err-member-clause-err bound c =
-    let p = err_from_is_err_and c.from_residual.result c.from_residual.ensures.1 in
+pub more_sequences_at-returns-in_err-member-clause-err : goal.more_sequences_at-returns-in_err-member-clause-err
+more_sequences_at-returns-in_err-member-clause-err bound c =
+    let p = err_from_is_err_and c.from_residual-in_err-member.result c.from_residual-in_err-member.ensures.1 in
     rw (p.1, p.2) (no_row graph sum c.args.room c.args.bytes.now c.members.left.now c.members.invariant.only c.in_err-member.field-0.0 c.in_err-member.ensures.err)
 
-pub sequence_at-members-preserved : goal.sequence_at-members-preserved
-sequence_at-members-preserved bound c = record {
-  found = found_more graph product c.args.room c.args.operations.now c.members.operations c.factor_at.new.operations c.args.bytes.now c.members.left.now c.in_ok-member.after.now c.members.members.items c.push.new.self.items c.in_ok-member.member c.members.invariant.found c.members.invariant.only c.in_ok-member.ensures.found c.in_ok-push.ensures.items c.in-Some.rest.now c.in-Some.ensures.cases;
-  only = only_more graph product c.args.room c.args.operations.now c.members.operations c.factor_at.new.operations c.args.bytes.now c.members.left.now c.in_ok-member.after.now c.members.members.items c.push.new.self.items c.in_ok-member.member c.members.invariant.found c.members.invariant.only c.in_ok-member.ensures.found c.in_ok-push.ensures.items c.in-Some.rest.now c.in-Some.ensures.cases;
+pub expression_at-returns-in_err-first-clause-err : goal.expression_at-returns-in_err-first-clause-err
+expression_at-returns-in_err-first-clause-err bound c =
+    let p = err_from_is_err_and c.from_residual.result c.from_residual.ensures.1 in
+    rw (p.1, p.2) (no_row graph sum c.args.room c.args.bytes.now c.args.bytes.now (only_at_first graph sum c.args.room c.args.bytes.now) c.in_err-first.field-0.0 c.in_err-first.ensures.err)
+
+pub expression_at-returns-in_default-clause-found : goal.expression_at-returns-in_default-clause-found
+expression_at-returns-in_default-clause-found bound c = alone graph sum c.args.room c.args.operations.now c.sequence_at.new.operations c.args.bytes.now c.in_ok-first.after.now c.in_ok-first.first c.in_ok-first.ensures.found c.in_default.ensures.cases
+
+pub expression_at-returns-in_err-whole-clause-err : goal.expression_at-returns-in_err-whole-clause-err
+expression_at-returns-in_err-whole-clause-err bound c =
+    let p = err_from_is_err_and c.from_residual-in_err-whole.result c.from_residual-in_err-whole.ensures.1 in
+    rw (p.1, p.2) (no_others graph sum c.args.room c.args.operations.now c.sequence_at.new.operations c.args.bytes.now c.in_ok-first.after.now c.in_ok-first.first c.in_ok-first.ensures.found c.in-Some.others.now c.in-Some.ensures.cases c.in_err-whole.field-0.0 c.in_err-whole.ensures.err)
+
+pub expression_at-returns-clause-found : goal.expression_at-returns-clause-found
+expression_at-returns-clause-found bound c = with_others graph sum c.args.room c.args.operations.now c.sequence_at.new.operations c.args.bytes.now c.in_ok-first.after.now c.in_ok-first.first c.in_ok-first.ensures.found c.in-Some.others.now c.in-Some.ensures.cases c.in_ok-whole.whole c.more_sequences_at.new.operations c.in_ok-whole.rest.now c.in_ok-whole.ensures.found
+
+pub more_factors_at-members-preserved : goal.more_factors_at-members-preserved
+more_factors_at-members-preserved bound c = record {
+  found = found_more graph product c.args.room c.args.first c.args.operations.now c.members.operations c.factor_at.new.operations c.args.bytes.now c.members.left.now c.in_ok-member.after.now c.members.members.items c.push-in-members.new.self.items c.in_ok-member.member c.members.invariant.found c.members.invariant.only c.in_ok-member.ensures.found c.in_ok-push-2.ensures.items c.in-Some.rest.now c.in-Some.ensures.cases;
+  only = only_more graph product c.args.room c.args.first c.args.operations.now c.members.operations c.factor_at.new.operations c.args.bytes.now c.members.left.now c.in_ok-member.after.now c.members.members.items c.push-in-members.new.self.items c.in_ok-member.member c.members.invariant.found c.members.invariant.only c.in_ok-member.ensures.found c.in_ok-push-2.ensures.items c.in-Some.rest.now c.in-Some.ensures.cases;
+  some = (let is = ap length c.in_ok-push-2.ensures.items in omega (arith, is));
   shorter = omega (arith, c.members.invariant.shorter, c.in_ok-member.ensures.shorter, c.in-Some.ensures.shorter);
   numbers = omega (arith, c.members.invariant.numbers, c.in_ok-member.ensures.numbers, c.in-Some.ensures.shorter);
 }
 
-pub sequence_at-returns-in-None-clause-found : goal.sequence_at-returns-in-None-clause-found
-sequence_at-returns-in-None-clause-found bound c = row_ends graph product c.args.room c.args.operations.now c.members.operations c.factor_at.new.operations c.args.bytes.now c.members.left.now c.in_ok-member.after.now c.members.members.items c.push.new.self.items c.in_ok-member.member c.members.invariant.found c.members.invariant.only c.in_ok-member.ensures.found c.in_ok-push.ensures.items c.sequence_of.result c.sequence_of.ensures c.in-None.ensures.cases
+pub more_factors_at-returns-in-None-clause-found : goal.more_factors_at-returns-in-None-clause-found
+more_factors_at-returns-in-None-clause-found bound c = row_ends graph product c.args.room c.args.first c.args.operations.now c.members.operations c.factor_at.new.operations c.args.bytes.now c.members.left.now c.in_ok-member.after.now c.members.members.items c.push-in-members.new.self.items c.in_ok-member.member c.members.invariant.found c.members.invariant.only c.in_ok-member.ensures.found c.in_ok-push-2.ensures.items c.sequence_of.result c.sequence_of.ensures c.in-None.ensures.cases
 
-pub sequence_at-returns-in_err-member-clause-err : goal.sequence_at-returns-in_err-member-clause-err
-sequence_at-returns-in_err-member-clause-err bound c =
-    let p = err_from_is_err_and c.from_residual.result c.from_residual.ensures.1 in
+pub more_factors_at-returns-in_err-member-clause-err : goal.more_factors_at-returns-in_err-member-clause-err
+more_factors_at-returns-in_err-member-clause-err bound c =
+    let p = err_from_is_err_and c.from_residual-in_err-member.result c.from_residual-in_err-member.ensures.1 in
     rw (p.1, p.2) (no_row graph product c.args.room c.args.bytes.now c.members.left.now c.members.invariant.only c.in_err-member.field-0.0 c.in_err-member.ensures.err)
+
+pub sequence_at-returns-in_err-first-clause-err : goal.sequence_at-returns-in_err-first-clause-err
+sequence_at-returns-in_err-first-clause-err bound c =
+    let p = err_from_is_err_and c.from_residual.result c.from_residual.ensures.1 in
+    rw (p.1, p.2) (no_row graph product c.args.room c.args.bytes.now c.args.bytes.now (only_at_first graph product c.args.room c.args.bytes.now) c.in_err-first.field-0.0 c.in_err-first.ensures.err)
+
+pub sequence_at-returns-in_default-clause-found : goal.sequence_at-returns-in_default-clause-found
+sequence_at-returns-in_default-clause-found bound c = alone graph product c.args.room c.args.operations.now c.factor_at.new.operations c.args.bytes.now c.in_ok-first.after.now c.in_ok-first.first c.in_ok-first.ensures.found c.in_default.ensures.cases
+
+pub sequence_at-returns-in_err-whole-clause-err : goal.sequence_at-returns-in_err-whole-clause-err
+sequence_at-returns-in_err-whole-clause-err bound c =
+    let p = err_from_is_err_and c.from_residual-in_err-whole.result c.from_residual-in_err-whole.ensures.1 in
+    rw (p.1, p.2) (no_others graph product c.args.room c.args.operations.now c.factor_at.new.operations c.args.bytes.now c.in_ok-first.after.now c.in_ok-first.first c.in_ok-first.ensures.found c.in-Some.others.now c.in-Some.ensures.cases c.in_err-whole.field-0.0 c.in_err-whole.ensures.err)
+
+pub sequence_at-returns-clause-found : goal.sequence_at-returns-clause-found
+sequence_at-returns-clause-found bound c = with_others graph product c.args.room c.args.operations.now c.factor_at.new.operations c.args.bytes.now c.in_ok-first.after.now c.in_ok-first.first c.in_ok-first.ensures.found c.in-Some.others.now c.in-Some.ensures.cases c.in_ok-whole.whole c.more_factors_at.new.operations c.in_ok-whole.rest.now c.in_ok-whole.ensures.found
 
 pub group_at-returns-then-room-eq0-clause-err : goal.group_at-returns-then-room-eq0-clause-err
 group_at-returns-then-room-eq0-clause-err bound c = group_too_deep graph c.args.room c.args.bytes.now c.in-Some.after.now c.in-Some.ensures.cases c.if-room-eq0.true

@@ -6,4 +6,4 @@ use Rattle.pg_text.proofs.writing.put_names.Goals as goal
 pub names-preserved : goal.names-preserved
 names-preserved c =
     put_more (λ w. w) (codes ", ") c.args.names.now c.names.i c.index-names-i.result _ c.args.out.now.items c.names.out.items c.put_if.new.out.items c.put.new.out.items
-    c.names-test.true c.index-names-i.is c.names.invariant c.in_ok-put_if.ensures (c.in_ok-put.ensures ∙ ap (λ t. c.put_if.new.out.items ++ t) (c.as_bytes.ensures.value ∙ c.as_str.ensures))
+    c.names-test.true c.index-names-i.is c.names.invariant c.in_ok-put_if.ensures.put (c.in_ok-put.ensures.put ∙ ap (λ t. c.put_if.new.out.items ++ t) (c.as_bytes.ensures.value ∙ c.as_str.ensures))

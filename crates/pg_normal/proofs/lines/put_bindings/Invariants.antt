@@ -1,6 +1,0 @@
-use Rattle.std.specs.Prelude.{◌≡◌, ◌++◌, map, take, codes}
-use Rattle.pg_text.specs.Writing.{row_text, bind_text}
-use Rattle.pg_normal.proofs.lines.put_bindings.Given as goal
-
-abbrev pub invariant-bindings : goal.invariant-bindings
-invariant-bindings l = l.out.items ≡ l.initial.out.items ++ row_text (codes ", ") (map bind_text (take l.i l.bindings))
