@@ -1,7 +1,7 @@
 use Rattle.std.proofs.Common.{arith, refl}
 use Rattle.cpog_defs.specs.declared.types.OpId.{OpId}
 use Rattle.scenario_check.proofs.RowLemmas.{has-more}
-use Rattle.scenario_check.proofs.walks.add_arcs.Goals as goal
+use Rattle.scenario_check.proofs.rows.add_arcs.Goals as goal
 
 pub loop-u-preserved : goal.loop-u-preserved
 loop-u-preserved c =

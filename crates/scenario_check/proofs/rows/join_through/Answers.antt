@@ -2,8 +2,8 @@ use Rattle.std.proofs.Common.{◌∙◌, ap, sym, set, get_or}
 use Rattle.std.proofs.lemmas.List.Edits.{map_over_more}
 use Rattle.scenario_check.specs.Rows.{joined_row}
 use Rattle.scenario_check.proofs.RowLemmas.{joined-has, joined-lacks}
-use Rattle.scenario_check.proofs.walks.join_through.Goals as goal
-use Rattle.scenario_check.proofs.walks.join_through.Goals.{then-contains, else-contains}
+use Rattle.scenario_check.proofs.rows.join_through.Goals as goal
+use Rattle.scenario_check.proofs.rows.join_through.Goals.{then-contains, else-contains}
 
 pub loop-row-preserved : goal.loop-row-preserved
 loop-row-preserved c =
