@@ -18,7 +18,8 @@ use Rattle.cpog_defs.specs.Gates.{GateList, IsGateList, signal_count, signal_val
 use Rattle.cpog_defs.specs.Encodings.{RefAgrees}
 use Rattle.cpog_base.specs.Column.{is_one, is_zero}
 use Rattle.gate_core.specs.Columns.{IsOpenColumn}
-use Rattle.gate_core.specs.First.{numbers, with_gate, SignalAgrees, NoSignalAgrees, scenarios_where, has_fewer_zeros, smaller_scenarios, sum_of_minterms, IsBySignal, IsByPair, IsByMinterms, Takes, TakesAll, ServesColumns}
+use Rattle.gate_core.specs.First.{numbers, with_gate, SignalAgrees, NoSignalAgrees, scenarios_where, has_fewer_zeros, smaller_scenarios, sum_of_minterms, IsBySignal, IsByPair, IsByMinterms, Takes, TakesAll}
+use Rattle.gate_core.specs.Serving.{ReferencesServe}
 use Rattle.gate_core.specs.Words.{value_at, IsEncodable}
 use Rattle.gate_core.specs.Minterms.{SameBits, AllDiffer}
 use Rattle.gate_core.proofs.GateLemmas.{input-signal}
@@ -456,7 +457,7 @@ whole_taken n bits some few enough columns h start is after refs t =
     all_taken (record { inputs = bits; gates = [] }) tt some columns (encodable n bits few enough columns h) after refs (subst (λ g. TakesAll g columns after refs) is t)
 
 pub whole_serves : (n bits : ℕ) (columns : List (List Bit3)) → All (IsOpenColumn n) columns → (after : GateList) (refs : List Ref) → AllTaken (record { inputs = bits; gates = [] }) columns after refs →
-    (codes : List ℕ) → codes ≡ numbers n → ServesColumns columns (record { codes = codes; gates = after; refs = refs })
+    (codes : List ℕ) → codes ≡ numbers n → ReferencesServe columns codes after refs
 whole_serves n bits columns h after refs t codes is = record {
   one_each = t.one_each;
   over = t.over;

@@ -1,8 +1,8 @@
 -- The first encoding of columns. The code of each scenario is its number, and gates are appended while the columns are
 -- taken in order. A column takes the first signal that agrees with it; where none does, a gate of the first two inputs
 -- that tell its scenarios apart; and where no two do, the minterms of the smaller set of its scenarios, joined.
-use Rattle.std.specs.Prelude.{◌≡◌, ◌↔◌, ◌⊎◌, ℕ, zero, suc, ◌+◌, ◌-◌, ◌*◌, ◌^◌, ◌<◌, ◌≤◌, ◌==◌, ◌&&◌, nat_lt, min, max, Bool, true, false, if◌then◌else◌, IsTrue, List, [], ◌∷◌, ◌++◌, length, slice_get, Some}
-use Rattle.std.specs.List.{list_any, count_by, position_or_len, All}
+use Rattle.std.specs.Prelude.{◌≡◌, ◌↔◌, ◌⊎◌, ℕ, zero, suc, ◌+◌, ◌-◌, ◌*◌, ◌^◌, ◌<◌, ◌≤◌, ◌==◌, ◌&&◌, nat_lt, min, max, Bool, true, false, if◌then◌else◌, IsTrue, List, [], ◌∷◌, ◌++◌, length}
+use Rattle.std.specs.List.{list_any, count_by, position_or_len}
 use Rattle.std.proofs.Common.{inl, inr}
 use Rattle.cpog_base.specs.Column.{is_one, is_zero}
 use Rattle.cpog_defs.specs.declared.types.Bit3.{Bit3}
@@ -13,7 +13,7 @@ use Rattle.cpog_defs.specs.declared.types.Ref.TheVariants.{Signal}
 use Rattle.cpog_defs.specs.Codes.{bit}
 use Rattle.cpog_defs.specs.Entries.{entry_at}
 use Rattle.cpog_defs.specs.Orders.{each_below}
-use Rattle.cpog_defs.specs.Gates.{GateList, signal_count, gate_value, IsRefOver}
+use Rattle.cpog_defs.specs.Gates.{GateList, signal_count, gate_value}
 use Rattle.cpog_defs.specs.Encodings.{RefAgrees}
 use Rattle.gate_core.specs.Columns.{smaller_set}
 
@@ -191,9 +191,3 @@ pub record IsFirstEncoding (n bits : ℕ) (columns : List (List Bit3)) (e : Firs
 abbrev pub HasFewGates : ℕ → ℕ → List (List Bit3) → FirstEncoding → Type 0
 HasFewGates n bits columns e = (first : IsFirstEncoding n bits columns e) →
     length e.gates.gates ≤ 832 + all_joins (record { inputs = bits; gates = [] }) columns e.gates e.refs first.refs
-
--- there is a reference for each column, over the gates' signals, and on each code it has the value that the column asks for
-pub record ServesColumns (columns : List (List Bit3)) (e : FirstEncoding) : Type 0 where
-  pub one_each : length e.refs ≡ length columns
-  pub over : All (IsRefOver (signal_count e.gates)) e.refs
-  pub agrees : (c : ℕ) (column : List Bit3) (ref : Ref) → slice_get columns c ≡ Some column → slice_get e.refs c ≡ Some ref → RefAgrees e.gates e.codes column ref

@@ -7,7 +7,8 @@ ghost use Rattle.std.specs.List.{All};
 ghost use Rattle.cpog_defs.specs.Codes.{AreCodes};
 ghost use Rattle.cpog_defs.specs.Gates.{IsGateList};
 ghost use Rattle.gate_core.specs.Columns.{IsOpenColumn};
-ghost use Rattle.gate_core.specs.First.{numbers, Takes, TakesAll, IsFirstEncoding, ServesColumns, HasFewGates};
+ghost use Rattle.gate_core.specs.First.{numbers, Takes, TakesAll, IsFirstEncoding, HasFewGates};
+ghost use Rattle.gate_core.specs.Serving.{ReferencesServe};
 ghost use Rattle.gate_core.specs.Words.{IsEncodable, IsMintermsRef};
 
 mod asked;
@@ -52,7 +53,7 @@ pub fn first_encode(
     ensures first { IfOk result (λ e. IsFirstEncoding n bits classes.now (record { codes = e.codes.items; gates = e.gates; refs = e.refs.items })) }
     ensures codes { IfOk result (λ e. (e.codes.items ≡ numbers n) × AreCodes bits n e.codes.items) }
     ensures gates { IfOk result (λ e. IsGateList e.gates × (e.gates.inputs ≡ bits)) }
-    ensures refs { IfOk result (λ e. ServesColumns classes.now (record { codes = e.codes.items; gates = e.gates; refs = e.refs.items })) }
+    ensures refs { IfOk result (λ e. ReferencesServe classes.now e.codes.items e.gates e.refs.items) }
     ensures few_gates { IfOk result (λ e. HasFewGates n bits classes.now (record { codes = e.codes.items; gates = e.gates; refs = e.refs.items })) }
 {
     let mut signals = Signals::new(alloc, bits)?;

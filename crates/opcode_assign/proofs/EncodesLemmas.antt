@@ -8,8 +8,9 @@ use Rattle.cpog_defs.specs.declared.types.Ref.TheVariants.{Const}
 use Rattle.cpog_defs.specs.Entries.{Agrees, entry_at}
 use Rattle.cpog_defs.specs.Codes.{bit, AreCodes, KeepGivenBits, open_patterns}
 use Rattle.cpog_defs.specs.Orders.{Order}
+use Rattle.cpog_defs.specs.Gates.{GateList}
 use Rattle.cpog_defs.specs.Encodings.{Encoding, IsEncoding, Fits, Encodes}
-use Rattle.gate_core.specs.First.{FirstEncoding, ServesColumns}
+use Rattle.gate_core.specs.Serving.{ReferencesServe}
 use Rattle.cpog_merge.specs.Table.{Table, AgreesWithTable}
 use Rattle.cpog_merge.specs.Classes.{Classes, class_column, AreClassesOf}
 use Rattle.cpog_merge.specs.ByClass.{class_ref, AgreeWithClasses, IsGraphByClass}
@@ -32,21 +33,21 @@ keeps_open codes n each = record {
 -- ---- references of classes
 
 -- the references of the classes' columns agree with the classes
-agree_with_classes : (list : Classes) (e : FirstEncoding) → ServesColumns list.columns e → AgreeWithClasses e.gates e.codes list e.refs
-agree_with_classes list e serves c lt =
-    serves.agrees c (class_column list c) (class_ref e.refs c) (slice_get-get_or list.columns c [] lt) (slice_get-get_or e.refs c (Const false) (omega (arith, lt, serves.one_each)))
+agree_with_classes : (list : Classes) (codes : List ℕ) (gates : GateList) (refs : List Ref) → ReferencesServe list.columns codes gates refs → AgreeWithClasses gates codes list refs
+agree_with_classes list codes gates refs serves c lt =
+    serves.agrees c (class_column list c) (class_ref refs c) (slice_get-get_or list.columns c [] lt) (slice_get-get_or refs c (Const false) (omega (arith, lt, serves.one_each)))
 
 -- codes and gates that serve the classes, and a graph whose conditions are those of the classes, encode the scenarios
 pub by_class_encodes : (count bits : ℕ) (orders : List Order) (t : Table) (list : Classes) (refs : List Ref) (e : Encoding)
     → ((f : Encoding) → IsEncoding count f → Fits f orders ↔ AgreesWithTable f t) → t.scenarios ≡ length orders → t.count ≡ count → AreClassesOf t list
     → e.gates.inputs ≡ bits → AreCodes bits (length orders) e.codes → IsEncoding count e
-    → ServesColumns list.columns (record { codes = e.codes; gates = e.gates; refs = refs }) → IsGraphByClass count list refs e.graph
+    → ReferencesServe list.columns e.codes e.gates refs → IsGraphByClass count list refs e.graph
     → Encodes count orders (open_patterns (length orders)) bits e
 by_class_encodes count bits orders t list refs e fits scenarios same are inputs codes encoding serves graph = record {
   bits_are = inputs;
   codes = codes;
   given = keeps_open e.codes (length orders) codes.one_each;
   encoding = encoding;
-  fits = (fits e encoding).1 (graph_by_class_lem e t list refs are (codes.one_each ∙ sym scenarios) (agree_with_classes list (record { codes = e.codes; gates = e.gates; refs = refs }) serves)
+  fits = (fits e encoding).1 (graph_by_class_lem e t list refs are (codes.one_each ∙ sym scenarios) (agree_with_classes list e.codes e.gates refs serves)
       (subst (λ n. IsGraphByClass n list refs e.graph) (sym same) graph));
 }

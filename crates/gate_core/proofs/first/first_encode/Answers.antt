@@ -1,7 +1,8 @@
 use Rattle.std.proofs.Common.{[], refl, sym, ap, subst, ◌∙◌, arith}
 use Rattle.cpog_defs.specs.Codes.{AreCodes}
 use Rattle.cpog_defs.specs.Gates.{IsGateList}
-use Rattle.gate_core.specs.First.{TakesAll, ServesColumns}
+use Rattle.gate_core.specs.First.{TakesAll}
+use Rattle.gate_core.specs.Serving.{ReferencesServe}
 use Rattle.gate_core.proofs.TakeLemmas.{encodable, whole_taken, whole_serves, numbers_are_codes}
 use Rattle.gate_core.proofs.BoundLemmas.{whole_bounded, few_in_all}
 use Rattle.gate_core.proofs.first.first_encode.Goals as goal
@@ -27,7 +28,7 @@ returns-clause-gates c =
 pub returns-clause-refs : goal.returns-clause-refs
 returns-clause-refs c =
     let h = whole_taken c.args.n c.args.bits c.requires.some_bit c.requires.few c.requires.enough c.args.classes.now c.requires.classes c.in_ok-signals.signals c.in_ok-signals.ensures c.take_all.new.signals c.in_ok-refs.refs.items c.in_ok-refs.ensures in
-    subst (λ g. ServesColumns c.args.classes.now (record { codes = c.in_ok-codes_below.field-0.items; gates = g; refs = c.in_ok-refs.refs.items })) (sym c.in_ok-gate_list.ensures)
+    subst (λ g. ReferencesServe c.args.classes.now c.in_ok-codes_below.field-0.items g c.in_ok-refs.refs.items) (sym c.in_ok-gate_list.ensures)
     (whole_serves c.args.n c.args.bits c.args.classes.now c.requires.classes c.take_all.new.signals c.in_ok-refs.refs.items h c.in_ok-codes_below.field-0.items c.in_ok-codes_below.ensures)
 
 pub returns-clause-few_gates : goal.returns-clause-few_gates
