@@ -3,8 +3,8 @@ use Rattle.std.specs.Ordering.{nat_cmp}
 use Rattle.std.specs.FinSet as set
 use Rattle.cpog_defs.specs.Orders.{is_before}
 use Rattle.order_reduce.proofs.PairLemmas.{far-joined, far-kept}
-use Rattle.order_reduce.proofs.reduction.before_those_before.Goals as goal
-use Rattle.order_reduce.proofs.reduction.before_those_before.Goals.{then-contains, else-contains}
+use Rattle.order_reduce.proofs.covered.before_those_before.Goals as goal
+use Rattle.order_reduce.proofs.covered.before_those_before.Goals.{then-contains, else-contains}
 
 pub loop-z-init : goal.loop-z-init
 loop-z-init c = λ u. ap (λ s. set.contains s u) c.empty-earlier.ensures ∙ set.contains-empty nat_cmp u

@@ -1,7 +1,7 @@
 use Rattle.std.proofs.Common.{◌∙◌, refl, ap}
 use Rattle.std.specs.FinSet as set
 use Rattle.std.specs.Cmp.{nat_cmp_total}
-use Rattle.order_reduce.proofs.reduction.covered_by.Goals as goal
+use Rattle.order_reduce.proofs.covered.covered_by.Goals as goal
 
 pub returns : goal.returns
 returns c = λ u.
