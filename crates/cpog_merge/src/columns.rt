@@ -2,7 +2,7 @@
 
 ghost use Rattle.std.specs.Prelude.{◌≡◌, ◌≢◌, ◌<◌};
 ghost use Rattle.cpog_defs.specs.declared.types.Place.TheVariants.{Op, Arc};
-ghost use Rattle.cpog_merge.specs.Table.{IsTable, column_at};
+ghost use Rattle.cpog_merge.specs.Columns.{AreColumns, column_at};
 
 use cpog_base::{Column, OpId};
 use sqlite_items::Items;
@@ -19,13 +19,13 @@ pub struct Columns {
 }
 
 impl Model for Columns {
-    ghost use Rattle.cpog_merge.specs.Table.{Table, IsTable};
+    ghost use Rattle.cpog_merge.specs.Columns.{Columns, AreColumns};
 
-    ghost Value = { Table };
+    ghost Value = { Columns };
 
     ghost view = { λ c. record { count = c.count; scenarios = c.scenarios; ops = c.ops; arcs = c.arcs } };
 
-    ghost invariant = { λ c. IsTable (record { count = c.count; scenarios = c.scenarios; ops = c.ops; arcs = c.arcs }) };
+    ghost invariant = { λ c. AreColumns (record { count = c.count; scenarios = c.scenarios; ops = c.ops; arcs = c.arcs }) };
 }
 
 impl Columns {
@@ -36,7 +36,7 @@ impl Columns {
         ops: Vec<Column>,
         arcs: Vec<Column>,
     ) -> Columns
-        requires { IsTable (record { count = count; scenarios = scenarios; ops = ops.items; arcs = arcs.items }) }
+        requires { AreColumns (record { count = count; scenarios = scenarios; ops = ops.items; arcs = arcs.items }) }
         ensures { result ≡ record { count = count; scenarios = scenarios; ops = ops.items; arcs = arcs.items } }
     {
         Columns {
@@ -50,7 +50,7 @@ impl Columns {
     /// How many operations there may be.
     pub fn count(&self) -> u8
         ensures count { result ≡ self.now.count }
-        ensures table { IsTable self.now }
+        ensures columns { AreColumns self.now }
     {
         self.count
     }

@@ -1,4 +1,4 @@
--- Tables that are filled from lists of lists.
+-- Columns that are filled from lists of lists.
 use Rattle.std.proofs.Common.{◌≡◌, ℕ, zero, suc, ◌+◌, ◌-◌, ◌*◌, ◌<◌, ◌≤◌, List, [], ◌∷◌, length, get_or, All, refl, sym, ap, ◌∙◌, inl, inr, arith, length-append}
 use Rattle.std.proofs.lemmas.Bool.{cases_eq}
 use Rattle.std.proofs.lemmas.List.{get_or_append_left, get_or-append_right, length-map}
@@ -10,7 +10,7 @@ use Rattle.cpog_defs.specs.declared.types.Place.TheVariants.{Op, Arc}
 use Rattle.cpog_defs.specs.Orders.{Order, each_below}
 use Rattle.cpog_defs.specs.Graphs.{IsPlace}
 use Rattle.cpog_defs.specs.Columns.{column}
-use Rattle.cpog_merge.specs.Table.{Table, IsTable, column_at, count_of, AreColumnsOf}
+use Rattle.cpog_merge.specs.Columns.{Columns, AreColumns, column_at, count_of, AreColumnsOf}
 use Rattle.cpog_merge.specs.Filling.{op_columns_of, arc_columns_into, arc_columns_of}
 
 -- ---- lists one behind the other, each of m elements
@@ -45,15 +45,15 @@ All-one : {A : Type 0} (P : A → Type 0) (x : A) → P x → All P (x ∷ [])
 All-one P x h zero d l = h
 All-one P x h (suc k) d l = absurd (omega arith)
 
--- ---- the table of some scenarios
+-- ---- the columns of some scenarios
 
 -- a column has an entry for each scenario
 size : (orders : List Order) (p : Place) → length (column orders p) ≡ length orders
 size orders p = length-map orders _
 
--- the table with these columns in their places
-abbrev pub table_of : List Order → ℕ → Table
-table_of orders n = record { count = n; scenarios = length orders; ops = op_columns_of orders n; arcs = arc_columns_of orders n n }
+-- all columns in their places
+abbrev pub full_columns : List Order → ℕ → Columns
+full_columns orders n = record { count = n; scenarios = length orders; ops = op_columns_of orders n; arcs = arc_columns_of orders n n }
 
 -- a column for the place alone
 abbrev op_column_of : List Order → ℕ → List (List Bit3)
@@ -66,9 +66,9 @@ arc_column_of orders v u = column orders (Arc (record { 0 = u }) (record { 0 = v
 length-into : (orders : List Order) (n v : ℕ) → length (arc_columns_into orders n v) ≡ n
 length-into orders n v = length-blocks (arc_column_of orders v) 1 (λ u. refl) n ∙ omega arith
 
--- it is a table
-pub is_table : (orders : List Order) (n : ℕ) → n ≤ 128 → length orders ≤ 64 → IsTable (table_of orders n)
-is_table orders n few_ops few_scenarios =
+-- none is missing
+pub are_full : (orders : List Order) (n : ℕ) → n ≤ 128 → length orders ≤ 64 → AreColumns (full_columns orders n)
+are_full orders n few_ops few_scenarios =
     let P : List Bit3 → Type 0 = λ c. length c ≡ length orders in
     record {
       few_ops = few_ops;
@@ -99,11 +99,11 @@ pub arc_there : (orders : List Order) (n u v : ℕ) → u < n → v < n → get_
 arc_there orders n u v l m =
     get-blocks (arc_columns_into orders n) n (length-into orders n) n v u [] m l ∙ into_there orders n u v l
 
--- the columns of the table are those that are defined
-pub are_columns : (orders : List Order) (n : ℕ) → n ≡ count_of orders → AreColumnsOf orders (table_of orders n)
+-- they are those that are defined
+pub are_columns : (orders : List Order) (n : ℕ) → n ≡ count_of orders → AreColumnsOf orders (full_columns orders n)
 are_columns orders n is = record { count = is; scenarios = refl; columns = at }
   where
-    at : (p : Place) → IsPlace (count_of orders) p → column_at (table_of orders n) p ≡ column orders p
+    at : (p : Place) → IsPlace (count_of orders) p → column_at (full_columns orders n) p ≡ column orders p
     at (Op v) l = op_there orders n v.0 (rw is l)
     at (Arc u v) l = arc_there orders n u.0 v.0 (rw is l.0) (rw is l.1)
 

@@ -1,13 +1,12 @@
-//! The conditions of all operations and pairs, each by the class that its column belongs to.
-ghost use Rattle.std.specs.Prelude.{◌≡◌, ◌≢◌, ◌<◌, ◌≤◌, true, ℕ, length, IfOk};
+//! The conditional graph of which each condition is that of the class to which the column of its place belongs.
+ghost use Rattle.std.specs.Prelude.{◌≡◌, ◌≢◌, ◌<◌, true, ℕ, length, IfOk};
 ghost use Rattle.cpog_defs.specs.declared.types.Place.TheVariants.{Op, Arc};
 ghost use Rattle.cpog_defs.specs.Graphs.{IsPlace, op_ref, arc_ref};
-ghost use Rattle.cpog_merge.specs.Classes.{belongs_at};
-ghost use Rattle.cpog_merge.specs.ByClass.{signed_ref, ref_by, IsGraphByClass};
-ghost use Rattle.opcode_assign.specs.References.{HaveReferences};
+ghost use Rattle.cpog_merge.specs.ByClass.{signed_ref, condition_at, graph_by_class, HaveReferences};
 
+use crate::class_list::{Belongs, ClassList};
 use cpog_base::{Memory, OpId};
-use cpog_merge::{Belongs, ClassList, Place};
+use cpog_defs::types::Place;
 use gate_core::{ConditionalGraph, Ref};
 use std::alloc::Global;
 
@@ -28,7 +27,7 @@ fn complement(reference: Ref) -> Ref
 fn condition_at(list: &ClassList, refs: &[Ref], p: Place) -> Ref
     requires place { IsPlace list.now.count p }
     requires refs { HaveReferences list.now refs.now }
-    ensures { result ≡ ref_by refs.now (belongs_at list.now p) }
+    ensures { result ≡ condition_at list.now refs.now p }
 {
     match list.belongs(p) {
         Belongs::Const(value) => Ref::Const(value),
@@ -48,7 +47,7 @@ fn set_operations(graph: &mut ConditionalGraph, list: &ClassList, refs: &[Ref])
     requires count { length graph.old.ops ≡ list.now.count }
     requires refs { HaveReferences list.now refs.now }
     ensures count { length graph.new.ops ≡ list.now.count }
-    ensures ops { (v : ℕ) → v < list.now.count → op_ref graph.new v ≡ ref_by refs.now (belongs_at list.now (Op (record { 0 = v }))) }
+    ensures ops { (v : ℕ) → v < list.now.count → op_ref graph.new v ≡ condition_at list.now refs.now (Op (record { 0 = v })) }
 {
     for v in 0..graph.count() {
         graph.set_op(OpId(v), condition_at(list, refs, Place::Op(OpId(v))));
@@ -61,7 +60,7 @@ fn set_arcs_from(graph: &mut ConditionalGraph, list: &ClassList, refs: &[Ref], u
     requires below { u.0 < list.now.count }
     requires refs { HaveReferences list.now refs.now }
     ensures ops { graph.new.ops ≡ graph.old.ops }
-    ensures row { (v : ℕ) → v < list.now.count → u.0 ≢ v → arc_ref graph.new u.0 v ≡ ref_by refs.now (belongs_at list.now (Arc u (record { 0 = v }))) }
+    ensures row { (v : ℕ) → v < list.now.count → u.0 ≢ v → arc_ref graph.new u.0 v ≡ condition_at list.now refs.now (Arc u (record { 0 = v })) }
     ensures others { (a b : ℕ) → a ≢ u.0 → arc_ref graph.new a b ≡ arc_ref graph.old a b }
 {
     for v in 0..graph.count() {
@@ -71,23 +70,27 @@ fn set_arcs_from(graph: &mut ConditionalGraph, list: &ClassList, refs: &[Ref], u
     }
 }
 
-/// The graph of so many operations whose conditions are those of the classes.
-pub(crate) fn graph_by_class(
+/// The graph of as many operations as the columns of the classes have, in which each condition is the reference that the
+/// column of its place takes by what it belongs to.
+///
+/// # Errors
+///
+/// `Memory` where none is left.
+pub fn graph_by_class(
     alloc: Global,
-    count: u8,
     list: &ClassList,
     refs: &[Ref],
 ) -> Result<ConditionalGraph, Memory>
-    requires count { count ≡ list.now.count }
-    requires few { count ≤ 128 }
-    requires refs { HaveReferences list.now refs.now }
-    ensures count { IfOk result (λ graph. length graph.ops ≡ count) }
-    ensures conditions { IfOk result (IsGraphByClass count list.now refs.now) }
+    requires { HaveReferences list.now refs.now }
+    ensures { IfOk result (λ graph. graph ≡ graph_by_class list.now refs.now) }
 {
+    let count = list.operations();
     let mut graph = ConditionalGraph::new(alloc, count)?;
     set_operations(&mut graph, list, refs);
     for u in 0..count {
         set_arcs_from(&mut graph, list, refs, OpId(u));
     }
+    // That no condition is missing is known once their count is read.
+    let _count = graph.count();
     Ok(graph)
 }

@@ -1,4 +1,4 @@
--- The columns of some scenarios in one table.
+-- The columns of some scenarios together.
 use Rattle.std.specs.Prelude.{◌≡◌, ℕ, ◌+◌, ◌*◌, ◌≤◌, List, [], ◌∷◌, length, slice_index_or}
 use Rattle.std.specs.List.{All}
 use Rattle.cpog_defs.specs.declared.types.Bit3.{Bit3}
@@ -10,19 +10,19 @@ use Rattle.cpog_defs.specs.Columns.{column}
 use Rattle.cpog_defs.specs.Encodings.{Encoding, RefAgrees}
 
 -- how many operations and scenarios there may be, the columns of the operations, and for each second operation those of its pairs
-pub record Table : Type 0 where
+pub record Columns : Type 0 where
   pub count : ℕ
   pub scenarios : ℕ
   pub ops : List (List Bit3)
   pub arcs : List (List Bit3)
 
 -- the column of a place
-abbrev pub column_at : Table → Place → List Bit3
+abbrev pub column_at : Columns → Place → List Bit3
 column_at t (Op v) = slice_index_or t.ops v.0 []
 column_at t (Arc u v) = slice_index_or t.arcs (v.0 * t.count + u.0) []
 
 -- a column for each operation and each pair, each with an entry for each scenario
-pub record IsTable (t : Table) : Type 0 where
+pub record AreColumns (t : Columns) : Type 0 where
   pub few_ops : t.count ≤ 128
   pub few_scenarios : t.scenarios ≤ 64
   pub ops_each : length t.ops ≡ t.count
@@ -36,12 +36,12 @@ count_of [] = 0
 count_of (o ∷ orders) = o.count
 
 -- each place has its column, with an entry for each of the scenarios
-pub record AreColumnsOf (orders : List Order) (t : Table) : Type 0 where
+pub record AreColumnsOf (orders : List Order) (t : Columns) : Type 0 where
   pub count : t.count ≡ count_of orders
   pub scenarios : t.scenarios ≡ length orders
   pub columns : (p : Place) → IsPlace (count_of orders) p → column_at t p ≡ column orders p
 
--- there is one code for each scenario of the table, on which each condition has the values of its column there
-pub record AgreesWithTable (e : Encoding) (t : Table) : Type 0 where
+-- there is one code for each of the scenarios, on which each condition has the values of its column
+pub record AgreesWith (e : Encoding) (t : Columns) : Type 0 where
   pub one_code_each : length e.codes ≡ t.scenarios
   pub agrees : (p : Place) → IsPlace t.count p → RefAgrees e.gates e.codes (column_at t p) (ref_of e.graph p)
