@@ -98,6 +98,9 @@ one_graph n a b h k same = same_parts a b
     row : (u : ℕ) → u < n → get_or a.arcs u [] ≡ get_or b.arcs u []
     row u l = ext_get_or (Const false) _ _ (h.rows u l ∙ sym (k.rows u l)) (λ v m. entry u v l (subst (λ i. v < i) (h.rows u l) m))
 
+pub graphs_are_one : (n signals signals' : ℕ) (a b : ConditionalGraph) → IsGraph n signals a → IsGraph n signals' b → ((p : Place) → IsPlace n p → ref_of a p ≡ ref_of b p) → a ≡ b
+graphs_are_one n signals signals' a b h k = one_graph n a b (whole_graph n signals a h) (whole_graph n signals' b k)
+
 by_class_whole : (list : Classes) (refs : List Ref) → IsWhole list.count (graph_by_class list refs)
 by_class_whole list refs = record {
   ops = length-alone (λ v. condition_at list refs (Op (record { 0 = v }))) list.count;

@@ -12,3 +12,4 @@ pub mod OpenLemmas
 pub mod ClassLemmas
 pub mod ListedLemmas
 pub mod ConverseLemmas
+pub mod SameLemmas

@@ -41,6 +41,11 @@ pub record AreColumnsOf (orders : List Order) (t : Columns) : Type 0 where
   pub scenarios : t.scenarios ≡ length orders
   pub columns : (p : Place) → IsPlace (count_of orders) p → column_at t p ≡ column orders p
 
+-- the same column at each place
+pub record AreSameColumns (t u : Columns) : Type 0 where
+  pub count : t.count ≡ u.count
+  pub columns : (p : Place) → IsPlace t.count p → column_at t p ≡ column_at u p
+
 -- there is one code for each of the scenarios, on which each condition has the values of its column
 pub record AgreesWith (e : Encoding) (t : Columns) : Type 0 where
   pub one_code_each : length e.codes ≡ t.scenarios

@@ -10,7 +10,7 @@ use Rattle.cpog_defs.specs.Orders.{Order, IsOrderOf}
 use Rattle.cpog_defs.specs.Scenarios.{Scenario, AreOrdersOf}
 use Rattle.cpog_defs.specs.Encodings.{Encoding, IsEncoding, Fits, FitsScenarios, RefAgrees, AgreesWithColumns}
 use Rattle.cpog_merge.specs.declared.class_list.Belongs.{Belongs}
-use Rattle.cpog_merge.specs.Columns.{Columns, AreColumns, count_of, AreColumnsOf, AgreesWith}
+use Rattle.cpog_merge.specs.Columns.{Columns, AreColumns, count_of, AreColumnsOf, AreSameColumns, AgreesWith}
 use Rattle.cpog_merge.specs.Classes.{Classes, ServesAs, belongs_at, BelongsTo, AreClassesOf}
 use Rattle.cpog_merge.specs.ByClass.{signed_ref, ref_by, IsGraphByClass, graph_by_class, IsSignal}
 use Rattle.gate_core.specs.Columns.{IsOpenColumn, smaller_set}
@@ -41,6 +41,10 @@ abbrev pub ClassesAreOne : Type 0
 ClassesAreOne =
     (t : Columns) (a b : Classes) → AreClassesOf t a → AreClassesOf t b →
     (a.places ≡ b.places) × (a.columns ≡ b.columns) × ((p : Place) → IsPlace t.count p → belongs_at a p ≡ belongs_at b p)
+
+-- columns that are the same at each place have the same classes
+abbrev pub SameColumnsSameClasses : Type 0
+SameColumnsSameClasses = (t u : Columns) (list : Classes) → AreSameColumns t u → AreClassesOf t list → AreClassesOf u list
 
 -- the classes are open columns
 abbrev pub ClassesAreOpen : Type 0

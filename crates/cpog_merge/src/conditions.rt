@@ -1,8 +1,10 @@
 //! The conditional graph of which each condition is that of the class to which the column of its place belongs.
 ghost use Rattle.std.specs.Prelude.{◌≡◌, ◌≢◌, ◌<◌, true, ℕ, length, IfOk};
 ghost use Rattle.cpog_defs.specs.declared.types.Place.TheVariants.{Op, Arc};
-ghost use Rattle.cpog_defs.specs.Graphs.{IsPlace, op_ref, arc_ref};
-ghost use Rattle.cpog_merge.specs.ByClass.{signed_ref, condition_at, graph_by_class, HaveReferences};
+ghost use Rattle.std.specs.List.{All};
+ghost use Rattle.cpog_defs.specs.Gates.{IsRefOver};
+ghost use Rattle.cpog_defs.specs.Graphs.{IsPlace, IsGraph, op_ref, arc_ref};
+ghost use Rattle.cpog_merge.specs.ByClass.{signed_ref, condition_at, graph_by_class, IsGraphByClass, HaveReferences};
 
 use crate::class_list::{Belongs, ClassList};
 use cpog_base::{Memory, OpId};
@@ -82,7 +84,9 @@ pub fn graph_by_class(
     refs: &[Ref],
 ) -> Result<ConditionalGraph, Memory>
     requires { HaveReferences list.now refs.now }
-    ensures { IfOk result (λ graph. graph ≡ graph_by_class list.now refs.now) }
+    ensures value { IfOk result (λ graph. graph ≡ graph_by_class list.now refs.now) }
+    ensures conditions { IfOk result (IsGraphByClass list.now.count list.now refs.now) }
+    ensures graph { IfOk result (λ graph. (signals : ℕ) → All (IsRefOver signals) refs.now → IsGraph list.now.count signals graph) }
 {
     let count = list.operations();
     let mut graph = ConditionalGraph::new(alloc, count)?;

@@ -1,6 +1,6 @@
 //! What columns and their classes tell of encodings.
 
-ghost use Rattle.cpog_merge.specs.Laws.{FitsIsAgreeing, FitsIsFittingScenarios, ServedAgree, BelongsToOne, ClassesAreOne, ClassesAreOpen, ReferencesStay, GraphByClassAgrees, GraphServesClasses, GraphByClassIsGraph, OneGraphByClass, SmallerSetsAreFew, JoiningIsBounded};
+ghost use Rattle.cpog_merge.specs.Laws.{FitsIsAgreeing, FitsIsFittingScenarios, ServedAgree, BelongsToOne, ClassesAreOne, SameColumnsSameClasses, ClassesAreOpen, ReferencesStay, GraphByClassAgrees, GraphServesClasses, GraphByClassIsGraph, OneGraphByClass, SmallerSetsAreFew, JoiningIsBounded};
 
 /// An encoding fits orders exactly where each of its conditions has, on each code, the value of its column's entry
 /// (Mokhov and Yakovlev 2010: the encoding constraints of a conditional partial order graph).
@@ -26,6 +26,11 @@ pub fn belongs_to_one()
 /// Columns have one list of classes, and each belongs to one of them or to one constant.
 pub fn classes_are_one()
     ensures { ClassesAreOne }
+{}
+
+/// Columns that are the same at each place have the same classes.
+pub fn same_columns_same_classes()
+    ensures { SameColumnsSameClasses }
 {}
 
 /// The classes are open columns, with an entry for each scenario.

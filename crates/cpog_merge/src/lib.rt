@@ -23,5 +23,6 @@ pub use filling::merge;
 pub use laws::{
     belongs_to_one, classes_are_one, classes_are_open, fits_is_agreeing, fits_is_fitting_scenarios,
     graph_by_class_agrees, graph_by_class_is_graph, graph_serves_classes, joining_is_bounded,
-    one_graph_by_class, references_stay, served_agree, smaller_sets_are_few,
+    one_graph_by_class, references_stay, same_columns_same_classes, served_agree,
+    smaller_sets_are_few,
 };
