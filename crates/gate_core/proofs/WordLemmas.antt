@@ -14,6 +14,7 @@ use Rattle.cpog_defs.specs.Entries.{entry_at}
 use Rattle.cpog_defs.specs.Orders.{each_below}
 use Rattle.cpog_base.proofs.ServeLemmas.{within_from, from_within}
 use Rattle.cpog_base.proofs.ColumnLemmas.{raised_same, raised_other, raised-lt}
+use Rattle.gate_core.specs.First.{code_at}
 use Rattle.gate_core.specs.Words.{asks_for, IsMetBy}
 
 -- ---- the bits of `&`, `|` and `!`
@@ -128,13 +129,16 @@ word_to_end asked column n word h l s = elim (cases_lt s n) [
 pub no_word : (asked : Bit3) (column : List Bit3) → IsWordTo asked column 0 0
 no_word asked column = record { below = omega arith; bits = λ k m. absurd (omega arith) }
 
--- ---- the scenarios that are asked for a bit
+-- ---- the codes of the scenarios that are asked for a bit
 
-abbrev pub listed : Bit3 → List Bit3 → ℕ → List ℕ
-listed asked column n = each_below (λ s. if asks_for asked (entry_at column s) then s ∷ [] else []) n
+abbrev pub listed : Bit3 → List ℕ → List Bit3 → ℕ → List ℕ
+listed asked codes column n = each_below (λ s. if asks_for asked (entry_at column s) then code_at codes s ∷ [] else []) n
 
-pub listed_with : (asked : Bit3) (column : List Bit3) (s : ℕ) (xs : List ℕ) → xs ≡ listed asked column s → asks_for asked (entry_at column s) ≡ true → xs ++ s ∷ [] ≡ listed asked column (s + 1)
-listed_with asked column s xs e t = rw (e, add-one) (sym (ap (λ b. listed asked column s ++ (if b then s ∷ [] else [])) t))
+pub listed_with : (asked : Bit3) (codes : List ℕ) (column : List Bit3) (s word : ℕ) (xs : List ℕ) → xs ≡ listed asked codes column s → word ≡ code_at codes s →
+    asks_for asked (entry_at column s) ≡ true → xs ++ word ∷ [] ≡ listed asked codes column (s + 1)
+listed_with asked codes column s word xs e w t = rw (e, w, add-one) (sym (ap (λ b. listed asked codes column s ++ (if b then code_at codes s ∷ [] else [])) t))
 
-pub listed_without : (asked : Bit3) (column : List Bit3) (s : ℕ) (xs : List ℕ) → xs ≡ listed asked column s → asks_for asked (entry_at column s) ≡ false → xs ≡ listed asked column (s + 1)
-listed_without asked column s xs e f = e ∙ sym (rw add-one (ap (λ b. listed asked column s ++ (if b then s ∷ [] else [])) f ∙ append-nil (listed asked column s)))
+pub listed_without : (asked : Bit3) (codes : List ℕ) (column : List Bit3) (s : ℕ) (xs : List ℕ) → xs ≡ listed asked codes column s →
+    asks_for asked (entry_at column s) ≡ false → xs ≡ listed asked codes column (s + 1)
+listed_without asked codes column s xs e f =
+    e ∙ sym (rw add-one (ap (λ b. listed asked codes column s ++ (if b then code_at codes s ∷ [] else [])) f ∙ append-nil (listed asked codes column s)))

@@ -21,7 +21,8 @@ GateSignal =
 abbrev pub SignalsAreCounted : Type 0
 SignalsAreCounted = (list : GateList) (word : ℕ) → length (signal_values list word) ≡ signal_count list
 
--- columns of so many scenarios have one first encoding over so many bits
+-- columns have one first encoding on the same codes, over so many bits
 abbrev pub FirstEncodingsAgree : Type 0
 FirstEncodingsAgree =
-    (n bits : ℕ) (columns : List (List Bit3)) (a b : FirstEncoding) → IsFirstEncoding n bits columns a → IsFirstEncoding n bits columns b → a ≡ b
+    (codes : List ℕ) (bits : ℕ) (columns : List (List Bit3)) (a b : FirstEncoding) →
+    IsFirstEncoding codes bits columns a → IsFirstEncoding codes bits columns b → a ≡ b

@@ -1,10 +1,10 @@
 //! What a column asks for, with a bit for each scenario.
 
-ghost use Rattle.std.specs.Prelude.{◌≡◌, ◌≢◌, ◌↔◌, ◌<◌, ℕ, IsTrue, true, false, IfOk};
+ghost use Rattle.std.specs.Prelude.{◌≡◌, ◌≢◌, ◌↔◌, ◌<◌, ℕ, IsTrue, true, false, length, IfOk};
 ghost use Rattle.cpog_defs.specs.declared.types.Bit3.TheVariants.{Free};
 ghost use Rattle.cpog_defs.specs.Codes.{bit};
 ghost use Rattle.cpog_defs.specs.Entries.{entry_at};
-ghost use Rattle.gate_core.specs.First.{scenarios_where, smaller_scenarios, has_fewer_zeros};
+ghost use Rattle.gate_core.specs.First.{codes_where, smaller_codes, has_fewer_zeros};
 ghost use Rattle.gate_core.specs.Words.{asks_for, IsAskedBy, IsMetBy};
 
 use cpog_base::{Bit3, Column, Memory, ScenId};
@@ -41,17 +41,23 @@ fn word_asking(column: &Column, asked: Bit3) -> u64
     word
 }
 
-/// The scenarios that are asked for a 1, or those that are asked for a 0 where these are fewer; and whether they are.
+/// The codes of the scenarios that are asked for a 1, or of those that are asked for a 0 where these are fewer; and
+/// whether they are.
 ///
 /// # Errors
 ///
 /// `Memory` where none is left.
-pub(crate) fn smaller_set(alloc: Global, column: &Column) -> Result<(Vec<u8>, bool), Memory>
-    ensures scenarios { IfOk result (λ set. set.0.items ≡ smaller_scenarios column.now) }
+pub(crate) fn smaller_set(
+    alloc: Global,
+    codes: &[u8],
+    column: &Column,
+) -> Result<(Vec<u8>, bool), Memory>
+    requires { length column.now ≡ length codes.now }
+    ensures codes { IfOk result (λ set. set.0.items ≡ smaller_codes codes.now column.now) }
     ensures zeros { IfOk result (λ set. set.1 ≡ has_fewer_zeros column.now) }
 {
-    let ones = scenarios_asking(alloc, column, Bit3::One)?;
-    let zeros = scenarios_asking(alloc, column, Bit3::Zero)?;
+    let ones = codes_asking(alloc, codes, column, Bit3::One)?;
+    let zeros = codes_asking(alloc, codes, column, Bit3::Zero)?;
     if zeros.len() < ones.len() {
         Ok((zeros, true))
     } else {
@@ -59,18 +65,24 @@ pub(crate) fn smaller_set(alloc: Global, column: &Column) -> Result<(Vec<u8>, bo
     }
 }
 
-/// The scenarios that are asked for this bit, in order.
-fn scenarios_asking(alloc: Global, column: &Column, asked: Bit3) -> Result<Vec<u8>, Memory>
-    requires { asked ≢ Free }
-    ensures { IfOk result (λ scenarios. scenarios.items ≡ scenarios_where (asks_for asked) column.now) }
+/// The codes of the scenarios that are asked for this bit, in order.
+fn codes_asking(
+    alloc: Global,
+    codes: &[u8],
+    column: &Column,
+    asked: Bit3,
+) -> Result<Vec<u8>, Memory>
+    requires asked { asked ≢ Free }
+    requires one_each { length column.now ≡ length codes.now }
+    ensures { IfOk result (λ asking. asking.items ≡ codes_where (asks_for asked) codes.now column.now) }
 {
-    let mut scenarios = Vec::new(alloc);
+    let mut asking = Vec::new(alloc);
     for s in 0..column.len() {
         if column.get(ScenId(s)) == asked {
-            scenarios.push(s)?;
+            asking.push(codes[usize::from(s)])?;
         }
     }
-    Ok(scenarios)
+    Ok(asking)
 }
 
 /// Whether each bit of one word is a bit of the other.
