@@ -55,11 +55,11 @@ module _ (codes : List ℕ) (column : List Bit3) (ones zeros : ℕ) (asked : IsA
   module _ (list : GateList) (words : List ℕ) (signals : AreSignals codes list words) where
     met_agrees : (n : ℕ) (negated : Bool) → n < signal_count list → IsMetBy ones zeros negated (slice_index words n) → SignalAgrees list codes column n negated
     met_agrees n negated l h = agrees_from list codes column n negated (λ s m. let v = value_at list n (code_at codes s) in agrees_by (entry_at column s) (signed negated v)
-        (λ t. signed_true negated v (sym (signals.values n s l m) ∙ (h s (omega (arith, m, few))).0 (asked.ones_where s ∙ t)))
-        (λ t. signed_false negated v (sym (signals.values n s l m) ∙ (h s (omega (arith, m, few))).1 (asked.zeros_where s ∙ t))))
+        (λ t. signed_true negated v (sym (signals.values n s l m) ∙ (h s).0 (asked.ones_where s ∙ t)))
+        (λ t. signed_false negated v (sym (signals.values n s l m) ∙ (h s).1 (asked.zeros_where s ∙ t))))
 
     agrees_met : (n : ℕ) (negated : Bool) → n < signal_count list → SignalAgrees list codes column n negated → IsMetBy ones zeros negated (slice_index words n)
-    agrees_met n negated l h s m = let v = value_at list n (code_at codes s) in (
+    agrees_met n negated l h s = let v = value_at list n (code_at codes s) in (
       λ t. let e = one_there s t in let k : s < length codes = omega (arith, one_within column s e, each) in
           signals.values n s l k ∙ true_signed negated v (one_agrees (entry_at column s) (signed negated v) (from_agrees list codes column n negated h s k) e),
       λ t. let e = zero_there s t in let k : s < length codes = omega (arith, zero_within column s e, each) in

@@ -1,52 +1,20 @@
 -- The words of signals.
-use Rattle.std.proofs.Common.{◌≡◌, ℕ, zero, suc, ◌+◌, ◌*◌, ◌%◌, ◌^◌, ◌<◌, ◌≤◌, Bool, true, false, not, ◌&&◌, ◌||◌, if◌then◌else◌, List, [], ◌∷◌, ◌++◌, length, map, slice_index, slice_index_or, bit_and, bit_or, refl, sym, ap, ◌∙◌, subst, inl, inr, arith, length-append}
+use Rattle.std.proofs.Common.{◌≡◌, ℕ, zero, suc, ◌+◌, ◌*◌, ◌^◌, ◌<◌, ◌≤◌, Bool, true, false, not, ◌&&◌, ◌||◌, if◌then◌else◌, List, [], ◌∷◌, ◌++◌, length, map, slice_index, slice_index_or, bit_and, bit_or, refl, sym, ap, ◌∙◌, subst, inl, inr, arith, length-append}
 use Rattle.std.specs.Int.{w64, bit_not}
 use Rattle.std.specs.List.{list_any, position_or_len}
 use Rattle.std.proofs.lemmas.Bool.{cases_eq}
-use Rattle.std.proofs.Math.Pow.{pow-lt}
 use Rattle.std.proofs.lemmas.List.{get_or_append_left, get_or_at, map-append, length-map}
 use Rattle.cpog_defs.specs.declared.types.Gate.{Gate}
 use Rattle.cpog_defs.specs.Codes.{bit}
 use Rattle.cpog_defs.specs.Gates.{GateList, signal_count, gate_value}
-use Rattle.cpog_base.proofs.ColumnLemmas.{raised_same, raised_other, raised-lt}
+use Rattle.cpog_base.specs.BitLaws.{bit-and, bit-or, bit-not, bit-zero}
 use Rattle.gate_core.specs.Words.{gate_of, gates_of, value_at, AreSignals}
 use Rattle.gate_core.specs.First.{code_at, same_gate, Reached, with_gate}
 use Rattle.cpog_base.proofs.NamesLemmas.{list_any-map, position_or_len-map}
 use Rattle.gate_core.proofs.GateLemmas.{input-signal, one_more_gate}
 use Rattle.gate_core.proofs.ExtendLemmas.{with_last, extends_last, extends-value, last-value}
-use Rattle.gate_core.proofs.WordLemmas.{bit-and, bit-or, bit-not, bit-above, bit-zero}
 
 -- ---- inputs
-
--- the values of an input on the first s codes, and no other bit
-pub record IsInputTo (codes : List ℕ) (i s word : ℕ) : Type 0 where
-  pub below : word < 2 ^ s
-  pub bits : (k : ℕ) → k < s → bit word k ≡ bit (code_at codes k) i
-
-pub no_input : (codes : List ℕ) (i : ℕ) → IsInputTo codes i 0 0
-no_input codes i = record { below = omega arith; bits = λ k m. absurd (omega arith) }
-
-module _ (codes : List ℕ) (i s word : ℕ) (l : s < 64) (h : IsInputTo codes i s word) where
-  wider : 2 ^ s < 2 ^ (s + 1)
-  wider = pow-lt (omega arith)
-
-  pub input_with : bit (code_at codes s) i ≡ true → IsInputTo codes i (s + 1) (bit_or word (1 * 2 ^ s % 2 ^ 64))
-  input_with t = record {
-    below = raised-lt word s (s + 1) (omega arith) (omega (arith, h.below, wider));
-    bits = λ k m. elim (cases_eq k s) [
-      | inl same ↦ rw same (raised_same word s l ∙ sym t)
-      | inr other ↦ raised_other word s l k other ∙ h.bits k (omega arith)
-    ];
-  }
-
-  pub input_without : bit (code_at codes s) i ≡ false → IsInputTo codes i (s + 1) word
-  input_without f = record {
-    below = omega (arith, h.below, wider);
-    bits = λ k m. elim (cases_eq k s) [
-      | inl same ↦ rw same (bit-above word s s h.below (omega arith) ∙ sym f)
-      | inr other ↦ h.bits k (omega arith)
-    ];
-  }
 
 -- so many words, each the values of the input of its number
 pub record AreInputsTo (codes : List ℕ) (i : ℕ) (words : List ℕ) : Type 0 where
@@ -90,7 +58,7 @@ pub gate_bits : (table first second a b c d : ℕ) → first < 2 ^ 64 → second
     (s : ℕ) → s < 64 → bit (bit_or (bit_or (bit_or a b) c) d) s ≡ gate_value table (bit first s) (bit second s)
 gate_bits table first second a b c d lf ls ra rb rc rd s l =
     bit-or (bit_or (bit_or a b) c) d s ∙ ap (λ x. x || bit d s) (bit-or (bit_or a b) c s ∙ ap (λ x. x || bit c s) (bit-or a b s))
-    ∙ rw (ra s, rb s, rc s, rd s, bit-and (bit_not w64 first) (bit_not w64 second) s, bit-and (bit_not w64 first) second s, bit-and first (bit_not w64 second) s, bit-and first second s, bit-not first s lf l, bit-not second s ls l)
+    ∙ rw (ra s, rb s, rc s, rd s, bit-and (bit_not w64 first) (bit_not w64 second) s, bit-and (bit_not w64 first) second s, bit-and first (bit_not w64 second) s, bit-and first second s, bit-not w64 first s lf l, bit-not w64 second s ls l)
     (four (λ n. bit table n) (bit first s) (bit second s))
   where
     none : (x : Bool) → (x && false) ≡ false

@@ -1,5 +1,6 @@
 -- The values of signals on the codes of all scenarios, and what a column asks for, as words with a bit for each scenario.
 use Rattle.std.specs.Prelude.{◌≡◌, ◌↔◌, ℕ, ◌<◌, ◌≤◌, Bool, false, not, IsTrue, List, length, map, slice_index, slice_index_or}
+use Rattle.cpog_base.specs.declared.limits.TheConstants.{BIT_LIMIT, SCENARIO_LIMIT}
 use Rattle.cpog_base.specs.Column.{is_one, is_zero}
 use Rattle.gate_core.specs.Columns.{IsOpenColumn}
 use Rattle.gate_core.specs.First.{code_at, smaller_codes, has_fewer_zeros, sum_of_minterms}
@@ -32,8 +33,8 @@ pub record Signals : Type 0 where
 -- gates over 1 to 8 inputs, at most 64 codes, and for each signal a word of its values on these codes
 pub record AreSignals (codes : List ℕ) (list : GateList) (words : List ℕ) : Type 0 where
   pub some : 1 ≤ list.inputs
-  pub few : list.inputs ≤ 8
-  pub few_codes : length codes ≤ 64
+  pub few : list.inputs ≤ BIT_LIMIT
+  pub few_codes : length codes ≤ SCENARIO_LIMIT
   pub gates : IsGateList list
   pub one_each : length words ≡ signal_count list
   pub values : (n s : ℕ) → n < signal_count list → s < length codes → bit (slice_index words n) s ≡ value_at list n (code_at codes s)
@@ -57,13 +58,13 @@ pub record IsAskedBy (column : List Bit3) (ones zeros : ℕ) : Type 0 where
 -- at most 64 different codes over so many inputs, and an open column with an entry for each
 pub record IsEncodable (codes : List ℕ) (inputs : ℕ) (column : List Bit3) : Type 0 where
   pub is_open : IsOpenColumn (length codes) column
-  pub few : length codes ≤ 64
+  pub few : length codes ≤ SCENARIO_LIMIT
   pub codes_are : AreCodes inputs (length codes) codes
 
 -- the values in a word, or their complements where negated, are as asked
 abbrev pub IsMetBy : ℕ → ℕ → Bool → ℕ → Type 0
 IsMetBy ones zeros negated word =
-    (s : ℕ) → s < 64 → (IsTrue (bit ones s) → bit word s ≡ not negated) × (IsTrue (bit zeros s) → bit word s ≡ negated)
+    (s : ℕ) → (IsTrue (bit ones s) → bit word s ≡ not negated) × (IsTrue (bit zeros s) → bit word s ≡ negated)
 
 -- the first word that is as asked, complemented only where it isn't as it stands
 pub record IsFirstMet (ones zeros : ℕ) (words : List ℕ) (ref : Ref) : Type 0 where

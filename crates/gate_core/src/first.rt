@@ -19,7 +19,7 @@ mod signals;
 use crate::{GateList, Ref};
 use asked::{asked_by, smaller_set};
 use choosing::{first_agreeing, first_pair};
-use cpog_base::{Column, Memory};
+use cpog_base::{BIT_LIMIT, Column, Memory, SCENARIO_LIMIT, TEMPLATE_LIMIT};
 use minterms::sum_of_minterms;
 use signals::Signals;
 use std::alloc::Global;
@@ -44,10 +44,10 @@ pub fn first_encode(
     bits: u8,
 ) -> Result<FirstEncoding, Memory>
     requires some_bit { 1 ≤ bits }
-    requires few_bits { bits ≤ 8 }
-    requires few { length codes.now ≤ 64 }
+    requires few_bits { bits ≤ BIT_LIMIT }
+    requires few { length codes.now ≤ SCENARIO_LIMIT }
     requires codes { AreCodes bits (length codes.now) codes.now }
-    requires few_classes { length classes.now ≤ 16777216 }
+    requires few_classes { length classes.now ≤ TEMPLATE_LIMIT }
     requires classes { All (IsOpenColumn (length codes.now)) classes.now }
     ensures first { IfOk result (λ e. IsFirstEncoding codes.now bits classes.now (record { codes = e.codes.items; gates = e.gates; refs = e.refs.items })) }
     ensures codes { IfOk result (λ e. e.codes.items ≡ codes.now) }
@@ -67,9 +67,9 @@ pub fn first_encode(
 /// A reference for each column in order, for which gates are put to the list.
 fn take_all(alloc: Global, signals: &mut Signals, columns: &[Column]) -> Result<Vec<Ref>, Memory>
     requires encodable { All (IsEncodable signals.old.codes signals.old.list.inputs) columns.now }
-    requires inputs { (1 ≤ signals.old.list.inputs) × (signals.old.list.inputs ≤ 8) }
-    requires few { length columns.now ≤ 16777216 }
-    requires few_codes { length signals.old.codes ≤ 64 }
+    requires inputs { (1 ≤ signals.old.list.inputs) × (signals.old.list.inputs ≤ BIT_LIMIT) }
+    requires few { length columns.now ≤ TEMPLATE_LIMIT }
+    requires few_codes { length signals.old.codes ≤ SCENARIO_LIMIT }
     requires no_gate { signals.old.list.gates ≡ [] }
     ensures { IfOk result (λ refs. TakesAll signals.old.codes signals.old.list columns.now signals.new.list refs.items) }
 {
@@ -106,7 +106,7 @@ fn take_column(alloc: Global, signals: &mut Signals, column: &Column) -> Result<
 fn by_minterms(alloc: Global, signals: &mut Signals, column: &Column) -> Result<Ref, Memory>
     requires gates { IsGateList signals.old.list }
     requires inputs { 2 ≤ signals.old.list.inputs }
-    requires few_inputs { signals.old.list.inputs ≤ 8 }
+    requires few_inputs { signals.old.list.inputs ≤ BIT_LIMIT }
     requires encodable { IsEncodable signals.old.codes signals.old.list.inputs column.now }
     requires room { length signals.old.list.gates < 2 ^ 30 }
     ensures minterms { IfOk result (IsMintermsRef signals.old.codes signals.old.list column.now signals.new.list) }

@@ -7,6 +7,7 @@ ghost use Rattle.cpog_defs.specs.Entries.{entry_at};
 ghost use Rattle.gate_core.specs.First.{codes_where, smaller_codes, has_fewer_zeros};
 ghost use Rattle.gate_core.specs.Words.{asks_for, IsAskedBy, IsMetBy};
 
+use cpog_base::bits::{is_within, share_bit, with_bit};
 use cpog_base::{Bit3, Column, Memory, ScenId};
 use std::alloc::Global;
 
@@ -34,9 +35,7 @@ fn word_asking(column: &Column, asked: Bit3) -> u64
 {
     let mut word = 0;
     for s in 0..column.len() {
-        if column.get(ScenId(s)) == asked {
-            word |= 1 << s;
-        }
+        word = with_bit(word, s, column.get(ScenId(s)) == asked);
     }
     word
 }
@@ -85,25 +84,18 @@ fn codes_asking(
     Ok(asking)
 }
 
-/// Whether each bit of one word is a bit of the other.
-fn is_within(word: u64, other: u64) -> bool
-    ensures { IsTrue result ↔ ((i : ℕ) → i < 64 → IsTrue (bit word i) → IsTrue (bit other i)) }
-{
-    word & !other == 0
-}
-
 impl Asked {
     /// Whether the values in a word are as asked.
     pub(crate) fn is_met_by(self, word: u64) -> bool
         ensures { IsTrue result ↔ IsMetBy self.ones self.zeros false word }
     {
-        is_within(self.ones, word) && is_within(self.zeros, !word)
+        is_within(self.ones, word) && !share_bit(self.zeros, word)
     }
 
     /// Whether the complements of the values in a word are as asked.
     pub(crate) fn is_opposed_by(self, word: u64) -> bool
         ensures { IsTrue result ↔ IsMetBy self.ones self.zeros true word }
     {
-        is_within(self.ones, !word) && is_within(self.zeros, word)
+        !share_bit(self.ones, word) && is_within(self.zeros, word)
     }
 }

@@ -9,7 +9,8 @@ ghost use Rattle.gate_core.specs.Words as words_of;
 ghost use Rattle.gate_core.specs.Words.{AreSignals, AreInputWords};
 
 use crate::GateList;
-use cpog_base::Memory;
+use cpog_base::bits::{has_bit, with_bit};
+use cpog_base::{BIT_LIMIT, Memory, SCENARIO_LIMIT};
 use cpog_defs::types::Gate;
 use indexmap::IndexSet;
 use std::alloc::Global;
@@ -40,8 +41,8 @@ impl Signals {
     /// So many inputs, and no gate.
     pub(crate) fn new(alloc: Global, codes: &[u8], inputs: u8) -> Result<Signals, Memory>
         requires some { 1 ≤ inputs }
-        requires few { inputs ≤ 8 }
-        requires few_codes { length codes.now ≤ 64 }
+        requires few { inputs ≤ BIT_LIMIT }
+        requires few_codes { length codes.now ≤ SCENARIO_LIMIT }
         ensures { IfOk result (λ signals. signals ≡ record { codes = codes.now; list = record { inputs = inputs; gates = [] } }) }
     {
         let mut words = Vec::with_capacity(alloc, usize::from(inputs))?;
@@ -67,7 +68,7 @@ impl Signals {
     pub(crate) fn inputs(&self) -> u8
         ensures inputs { result ≡ self.now.list.inputs }
         ensures some { 1 ≤ self.now.list.inputs }
-        ensures few { self.now.list.inputs ≤ 8 }
+        ensures few { self.now.list.inputs ≤ BIT_LIMIT }
         ensures gates { IsGateList self.now.list }
     {
         self.inputs
@@ -83,7 +84,7 @@ impl Signals {
     /// For each input a word of its values.
     pub(crate) fn input_words(&self) -> &[u64]
         ensures words { AreInputWords self.now.list.inputs self.now.codes result.now }
-        ensures few { self.now.list.inputs ≤ 8 }
+        ensures few { self.now.list.inputs ≤ BIT_LIMIT }
     {
         &self.words[..usize::from(self.inputs)]
     }
@@ -147,15 +148,13 @@ fn gates_in(alloc: Global, keys: &IndexSet<(u32, u32, u8)>) -> Result<Vec<Gate>,
 
 /// The values of an input on the codes.
 fn input_word(codes: &[u8], i: u8) -> u64
-    requires few { length codes.now ≤ 64 }
-    requires input { i < 8 }
+    requires few { length codes.now ≤ SCENARIO_LIMIT }
+    requires input { i < BIT_LIMIT }
     ensures { (s : ℕ) → s < length codes.now → bit result s ≡ bit (code_at codes.now s) i }
 {
     let mut word = 0;
     for (s, code) in codes.iter().enumerate() {
-        if *code >> i & 1 == 1 {
-            word |= 1 << s;
-        }
+        word = with_bit(word, s as u8, has_bit(u64::from(*code), i));
     }
     word
 }
@@ -175,5 +174,5 @@ fn row_of(table: u8, row: u8, word: u64) -> u64
     requires { row < 4 }
     ensures { (s : ℕ) → bit result s ≡ (bit table row && bit word s) }
 {
-    if table >> row & 1 == 1 { word } else { 0 }
+    if has_bit(u64::from(table), row) { word } else { 0 }
 }
