@@ -1,4 +1,4 @@
-ghost use Rattle.gate_core.specs.Laws.{InputSignal, GateSignal, SignalsAreCounted, FirstEncodingsAgree};
+ghost use Rattle.gate_core.specs.Laws.{InputSignal, GateSignal, SignalsAreCounted, FirstEncodingsAgree, AgreeingAreCodes};
 
 /// The value of an input's signal is the word's bit.
 pub fn input_signal()
@@ -18,4 +18,9 @@ pub fn signals_are_counted()
 /// Columns have one first encoding.
 pub fn first_encodings_agree()
     ensures { FirstEncodingsAgree }
+{}
+
+/// Lists that agree with patterns are the codes that keep their given bits.
+pub fn agreeing_are_codes()
+    ensures { AgreeingAreCodes }
 {}
