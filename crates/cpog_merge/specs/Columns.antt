@@ -4,6 +4,7 @@ use Rattle.std.specs.List.{All}
 use Rattle.cpog_defs.specs.declared.types.Bit3.{Bit3}
 use Rattle.cpog_defs.specs.declared.types.Place.{Place}
 use Rattle.cpog_defs.specs.declared.types.Place.TheVariants.{Op, Arc}
+use Rattle.cpog_base.specs.declared.limits.TheConstants.{SCENARIO_LIMIT}
 use Rattle.cpog_defs.specs.Orders.{Order}
 use Rattle.cpog_defs.specs.Graphs.{IsPlace, ref_of}
 use Rattle.cpog_defs.specs.Columns.{column}
@@ -24,7 +25,7 @@ column_at t (Arc u v) = slice_index_or t.arcs (v.0 * t.count + u.0) []
 -- a column for each operation and each pair, each with an entry for each scenario
 pub record AreColumns (t : Columns) : Type 0 where
   pub few_ops : t.count ≤ 128
-  pub few_scenarios : t.scenarios ≤ 64
+  pub few_scenarios : t.scenarios ≤ SCENARIO_LIMIT
   pub ops_each : length t.ops ≡ t.count
   pub arcs_each : length t.arcs ≡ t.count * t.count
   pub op_entries : All (λ c. length c ≡ t.scenarios) t.ops

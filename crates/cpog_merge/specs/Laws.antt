@@ -9,6 +9,7 @@ use Rattle.cpog_defs.specs.Gates.{GateList, signal_count, IsRefOver}
 use Rattle.cpog_defs.specs.Orders.{Order, IsOrderOf}
 use Rattle.cpog_defs.specs.Scenarios.{Scenario, AreOrdersOf}
 use Rattle.cpog_defs.specs.Encodings.{Encoding, IsEncoding, Fits, FitsScenarios, RefAgrees, AgreesWithColumns}
+use Rattle.cpog_base.specs.declared.limits.TheConstants.{OPERATION_LIMIT, SCENARIO_LIMIT}
 use Rattle.cpog_merge.specs.declared.class_list.Belongs.{Belongs}
 use Rattle.cpog_merge.specs.Columns.{Columns, AreColumns, count_of, AreColumnsOf, AreSameColumns, AgreesWith}
 use Rattle.cpog_merge.specs.Classes.{Classes, ServesAs, belongs_at, BelongsTo, AreClassesOf}
@@ -82,11 +83,11 @@ OneGraphByClass =
 -- The smaller sets of all classes together have at most 1024 times as many members as there are scenarios, where there are at most 64 operations.
 abbrev pub SmallerSetsAreFew : Type 0
 SmallerSetsAreFew =
-    (orders : List Order) (t : Columns) (list : Classes) → All (IsOrderOf (count_of orders)) orders → count_of orders ≤ 64 →
+    (orders : List Order) (t : Columns) (list : Classes) → All (IsOrderOf (count_of orders)) orders → count_of orders ≤ OPERATION_LIMIT →
     AreColumnsOf orders t → AreClassesOf t list → sum_by smaller_set list.columns ≤ length orders * 1024
 
 -- Summed over the classes, the members of the smaller set less one are at most 63488, where there are at most 64 scenarios as well.
 abbrev pub JoiningIsBounded : Type 0
 JoiningIsBounded =
-    (orders : List Order) (t : Columns) (list : Classes) → All (IsOrderOf (count_of orders)) orders → count_of orders ≤ 64 → length orders ≤ 64 →
+    (orders : List Order) (t : Columns) (list : Classes) → All (IsOrderOf (count_of orders)) orders → count_of orders ≤ OPERATION_LIMIT → length orders ≤ SCENARIO_LIMIT →
     AreColumnsOf orders t → AreClassesOf t list → sum_by (λ column. smaller_set column - 1) list.columns ≤ 63488

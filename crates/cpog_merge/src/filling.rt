@@ -10,7 +10,7 @@ ghost use Rattle.cpog_merge.specs.Columns.{count_of, AreColumnsOf, AgreesWith};
 ghost use Rattle.cpog_merge.specs.Filling.{op_columns_of, arc_columns_into, arc_columns_of};
 
 use crate::Columns;
-use cpog_base::{Bit3, Column, Memory, OpId, ScenId};
+use cpog_base::{Bit3, Column, Memory, OpId, SCENARIO_LIMIT, ScenId};
 use order_reduce::CoveredOrder;
 use std::alloc::Global;
 
@@ -43,7 +43,7 @@ fn entry_of_arc(order: &CoveredOrder, u: OpId, v: OpId) -> Bit3
 }
 
 fn op_column(orders: &[CoveredOrder], v: OpId) -> Column
-    requires { length orders.now ≤ 64 }
+    requires { length orders.now ≤ SCENARIO_LIMIT }
     ensures { result ≡ column orders.now (Op v) }
 {
     let mut column = Column::new(orders.len() as u8);
@@ -54,7 +54,7 @@ fn op_column(orders: &[CoveredOrder], v: OpId) -> Column
 }
 
 fn arc_column(orders: &[CoveredOrder], u: OpId, v: OpId) -> Column
-    requires few { length orders.now ≤ 64 }
+    requires few { length orders.now ≤ SCENARIO_LIMIT }
     requires below { All (λ o. v.0 < o.count) orders.now }
     ensures { result ≡ column orders.now (Arc u v) }
 {
@@ -66,7 +66,7 @@ fn arc_column(orders: &[CoveredOrder], u: OpId, v: OpId) -> Column
 }
 
 fn op_columns(alloc: Global, orders: &[CoveredOrder], count: u8) -> Result<Vec<Column>, Memory>
-    requires { length orders.now ≤ 64 }
+    requires { length orders.now ≤ SCENARIO_LIMIT }
     ensures { IfOk result (λ columns. columns.items ≡ op_columns_of orders.now count) }
 {
     let mut columns = Vec::new(alloc);
@@ -83,7 +83,7 @@ fn push_arcs_into(
     count: u8,
     v: OpId,
 ) -> Result<(), Memory>
-    requires few { length orders.now ≤ 64 }
+    requires few { length orders.now ≤ SCENARIO_LIMIT }
     requires below { All (λ o. v.0 < o.count) orders.now }
     ensures { OnOk result (columns.new.items ≡ columns.old.items ++ arc_columns_into orders.now count v.0) }
 {
@@ -94,7 +94,7 @@ fn push_arcs_into(
 }
 
 fn arc_columns(alloc: Global, orders: &[CoveredOrder], count: u8) -> Result<Vec<Column>, Memory>
-    requires few { length orders.now ≤ 64 }
+    requires few { length orders.now ≤ SCENARIO_LIMIT }
     requires alike { All (λ o. o.count ≡ count) orders.now }
     ensures { IfOk result (λ columns. columns.items ≡ arc_columns_of orders.now count count) }
 {
@@ -113,7 +113,7 @@ fn arc_columns(alloc: Global, orders: &[CoveredOrder], count: u8) -> Result<Vec<
 /// `Memory` where none is left.
 pub fn merge(alloc: Global, orders: &[CoveredOrder]) -> Result<Columns, Memory>
     requires some { 0 < length orders.now }
-    requires few { length orders.now ≤ 64 }
+    requires few { length orders.now ≤ SCENARIO_LIMIT }
     requires alike { All (IsOrderOf (count_of orders.now)) orders.now }
     ensures columns { IfOk result (AreColumnsOf orders.now) }
 

@@ -4,7 +4,8 @@ use Rattle.std.specs.FinSet as set
 use Rattle.std.specs.Cmp.{nat_cmp_total}
 use Rattle.cpog_defs.specs.declared.types.OpId.{OpId}
 use Rattle.cpog_defs.specs.Orders.{Set, Order, any_below, is_before, is_covered, each_below, arc_of, covering_pairs}
-use Rattle.order_reduce.specs.Covered.{row_has, AreCovered, pairs_from}
+use Rattle.order_reduce.specs.Covered.{AreCovered, pairs_from}
+use Rattle.cpog_base.specs.Rows.{row_has}
 
 flip : (x y : Bool) → (x || y) ≡ (y || x)
 flip true true = refl

@@ -12,7 +12,8 @@ use Rattle.std.specs.FinSet as set
 use Rattle.cpog_defs.specs.declared.types.OpId.{OpId}
 use Rattle.cpog_defs.specs.Orders.{Set, Order, IsOrder, each_below, arc_of, is_covered, covering_pairs}
 use Rattle.cpog_defs.specs.Scenarios.{Scenario}
-use Rattle.cpog_base.specs.Arcs.{has_arc, with_arc}
+use Rattle.cpog_base.specs.Arcs.{with_arc}
+use Rattle.cpog_base.specs.Rows.{has_arc}
 use Rattle.order_reduce.proofs.CoveredLemmas.{covered_tells}
 use Rattle.order_reduce.proofs.PairWalks.{from_each, from_if, pair_covered}
 

@@ -1,12 +1,8 @@
 -- For each operation the set of those that it covers, and the pairs that such sets are.
-use Rattle.std.specs.Prelude.{◌≡◌, ℕ, ◌<◌, Bool, List, [], ◌∷◌, length, if◌then◌else◌, slice_index_or}
-use Rattle.std.specs.FinSet as set
+use Rattle.std.specs.Prelude.{◌≡◌, ℕ, ◌<◌, List, [], ◌∷◌, length, if◌then◌else◌}
 use Rattle.cpog_defs.specs.declared.types.OpId.{OpId}
 use Rattle.cpog_defs.specs.Orders.{Set, Order, is_covered, each_below, arc_of}
-
--- whether v's set has u
-abbrev pub row_has : List Set → ℕ → ℕ → Bool
-row_has rows u v = set.contains (slice_index_or rows v set.empty) u
+use Rattle.cpog_base.specs.Rows.{row_has}
 
 -- each operation's set has exactly those that it covers
 pub record AreCovered (o : Order) (rows : List Set) : Type 0 where

@@ -6,7 +6,7 @@ ghost use Rattle.scenario_check.specs.declared.orders.CycleFault.TheVariants as 
 ghost use Rattle.scenario_check.specs.declared.orders.OrderFault.TheVariants as faults;
 
 use crate::rows::{first_cyclic, walks};
-use cpog_base::{OpId, Order, ScenId, Scenario};
+use cpog_base::{OpId, Order, SCENARIO_LIMIT, ScenId, Scenario};
 use std::alloc::{AllocFailed, Global};
 
 /// Why a scenario has no order.
@@ -67,7 +67,7 @@ pub fn closure(alloc: Global, scenario: &Scenario) -> Result<Order, CycleFault>
 /// `Cyclic` exactly where some scenario has an operation before itself, with the first such scenario and its least such
 /// operation; `Memory` where none is left.
 pub fn orders_of(alloc: Global, scenarios: &[Scenario]) -> Result<Vec<Order>, OrderFault>
-    requires { length scenarios.now ≤ 64 }
+    requires { length scenarios.now ≤ SCENARIO_LIMIT }
     ensures orders { IfOk result (λ orders. AreOrdersOf scenarios.now orders.items) }
     ensures err { IfErr result (IsOrderFault scenarios.now) }
     ensures known { IfErr result (NamesOperation scenarios.now) }

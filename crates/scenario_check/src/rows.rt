@@ -4,7 +4,8 @@
 ghost use Rattle.std.specs.Prelude.{◌≡◌, ◌<◌, ◌≤◌, ◌||◌, ℕ, IsTrue, length, replicate, slice_index_or, slice_set, IfOk, MatchOption};
 ghost use Rattle.std.specs.FinSet as set;
 ghost use Rattle.std.specs.List.{All};
-ghost use Rattle.scenario_check.specs.Rows.{row_has, has_arc, turned, turns, NoneBelow, AreRowsOf};
+ghost use Rattle.cpog_base.specs.Rows.{row_has, has_arc};
+ghost use Rattle.scenario_check.specs.Rows.{turned, turns, NoneBelow, AreRowsOf};
 
 use cpog_base::{Memory, OpId, OpSet, empty_sets};
 use std::alloc::Global;

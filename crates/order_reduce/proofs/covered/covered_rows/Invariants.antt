@@ -1,6 +1,6 @@
 use Rattle.std.proofs.Common.{◌≡◌, ◌<◌, ℕ, length}
 use Rattle.cpog_defs.specs.Orders.{is_covered}
-use Rattle.order_reduce.specs.Covered.{row_has}
+use Rattle.cpog_base.specs.Rows.{row_has}
 use Rattle.order_reduce.proofs.covered.covered_rows.Given as goal
 
 abbrev pub invariant-loop-v : goal.invariant-loop-v

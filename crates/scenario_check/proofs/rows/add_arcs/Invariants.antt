@@ -1,5 +1,5 @@
 use Rattle.std.proofs.Common.{◌≡◌, ℕ, ◌||◌, take}
-use Rattle.scenario_check.specs.Rows.{row_has, has_arc}
+use Rattle.cpog_base.specs.Rows.{row_has, has_arc}
 use Rattle.scenario_check.proofs.rows.add_arcs.Given as goal
 
 abbrev pub invariant-loop-u : goal.invariant-loop-u

@@ -1,5 +1,5 @@
 use Rattle.std.proofs.Common.{◌∙◌, ◌||◌, ap, length}
-use Rattle.scenario_check.specs.Rows.{row_has, has_arc}
+use Rattle.cpog_base.specs.Rows.{row_has, has_arc}
 use Rattle.scenario_check.proofs.RowLemmas.{filled}
 use Rattle.scenario_check.proofs.rows.fill.Goals as goal
 
