@@ -1,6 +1,5 @@
-use Rattle.std.proofs.Common.{◌≡◌, arith, sym, subst}
+use Rattle.std.proofs.Common.{arith, sym, subst}
 use Rattle.cpog_defs.specs.Graphs.{IsGraph}
-use Rattle.cpog_merge.specs.ByClass.{graph_by_class, IsGraphByClass}
 use Rattle.cpog_merge.proofs.GraphLemmas.{square_by_class, set_conditions, by_class_is_graph}
 use Rattle.cpog_merge.proofs.conditions.graph_by_class.Goals as goal
 
