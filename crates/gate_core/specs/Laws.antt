@@ -2,9 +2,11 @@
 use Rattle.std.specs.Prelude.{◌≡◌, ◌↔◌, ℕ, ◌+◌, ◌^◌, ◌<◌, ◌≤◌, false, length, take, slice_index_or, slice_get, Some, List}
 use Rattle.cpog_defs.specs.declared.types.Gate.{Gate}
 use Rattle.cpog_defs.specs.declared.types.Bit3.{Bit3}
-use Rattle.cpog_defs.specs.Codes.{bit, AreCodes, KeepGivenBits}
+use Rattle.cpog_defs.specs.Codes.{bit, AreCodes, KeepGivenBits, open_patterns}
 use Rattle.cpog_defs.specs.Gates.{GateList, IsGateList, signal_count, signal_values, gate_value}
-use Rattle.gate_core.specs.Least.{Agree}
+use Rattle.cpog_defs.specs.Orders.{Order}
+use Rattle.cpog_defs.specs.Encodings.{Encoding, Encodes}
+use Rattle.gate_core.specs.Least.{Agree, AreLeast, NoneGiven, numbers}
 use Rattle.gate_core.specs.First.{FirstEncoding, IsFirstEncoding}
 
 -- the value of an input's signal is the word's bit
@@ -32,3 +34,19 @@ FirstEncodingsAgree =
 abbrev pub AgreeingAreCodes : Type 0
 AgreeingAreCodes = (patterns : List (List Bit3)) (bits n : ℕ) (codes : List ℕ) → n ≤ length patterns → length codes ≡ n →
     Agree patterns (2 ^ bits) n codes ↔ (AreCodes bits n codes × KeepGivenBits (take n patterns) codes)
+
+-- patterns have one least list
+abbrev pub LeastCodesAgree : Type 0
+LeastCodesAgree = (patterns : List (List Bit3)) (top : ℕ) (a b : List ℕ) → AreLeast patterns top a → AreLeast patterns top b → a ≡ b
+
+-- where no bit is given and there are enough words, the least codes are the numbers of the scenarios
+abbrev pub OpenCodesAreNumbers : Type 0
+OpenCodesAreNumbers =
+    (patterns : List (List Bit3)) (top : ℕ) (codes : List ℕ) → NoneGiven patterns → length patterns ≤ top → AreLeast patterns top codes →
+    codes ≡ numbers (length patterns)
+
+-- an encoding that keeps given bits is an encoding
+abbrev pub GivenBitsMayBeLeft : Type 0
+GivenBitsMayBeLeft =
+    (count bits : ℕ) (orders : List Order) (patterns : List (List Bit3)) (e : Encoding) →
+    Encodes count orders patterns bits e → Encodes count orders (open_patterns (length orders)) bits e

@@ -4,6 +4,7 @@
 
 ghost use Rattle.std.specs.Prelude.{◌≡◌, ◌≢◌, ℕ, List, [], ◌+◌, ◌^◌, ◌<◌, ◌≤◌, take, length, replicate, slice_index, IfOk, IsErrOf};
 ghost use Rattle.cpog_defs.specs.declared.types.Bit3.TheVariants.{Free};
+ghost use Rattle.cpog_defs.specs.Codes.{AreCodes, KeepGivenBits};
 ghost use Rattle.gate_core.specs.Matching.{IsMatching};
 ghost use Rattle.gate_core.specs.Patterns.{MayHave};
 ghost use Rattle.gate_core.specs.Least.{IsFirstClash, AreLeast};
@@ -44,6 +45,8 @@ pub fn least_codes(alloc: Global, given: &[Pattern], bits: u8) -> Result<Vec<u8>
     requires few { length given.now ≤ SCENARIO_LIMIT }
     requires bits { bits ≤ BIT_LIMIT }
     ensures least { IfOk result (λ codes. AreLeast given.now (2 ^ bits) codes.items) }
+    ensures codes { IfOk result (λ codes. AreCodes bits (length given.now) codes.items) }
+    ensures given { IfOk result (λ codes. KeepGivenBits given.now codes.items) }
     ensures clash { (k : ℕ) → IsErrOf result (CodesFault.Clash (record { 0 = k })) → IsFirstClash given.now (2 ^ bits) k }
 {
     let top = 1u16 << bits;

@@ -22,5 +22,6 @@ pub use first::{FirstEncoding, first_encode};
 pub use gate_list::GateList;
 pub use graph::ConditionalGraph;
 pub use laws::{
-    agreeing_are_codes, first_encodings_agree, gate_signal, input_signal, signals_are_counted,
+    agreeing_are_codes, first_encodings_agree, gate_signal, given_bits_may_be_left, input_signal,
+    least_codes_agree, open_codes_are_numbers, signals_are_counted,
 };

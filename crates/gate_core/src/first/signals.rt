@@ -174,5 +174,9 @@ fn row_of(table: u8, row: u8, word: u64) -> u64
     requires { row < 4 }
     ensures { (s : ℕ) → bit result s ≡ (bit table row && bit word s) }
 {
-    if has_bit(u64::from(table), row) { word } else { 0 }
+    if has_bit(u64::from(table), row) {
+        word
+    } else {
+        0
+    }
 }

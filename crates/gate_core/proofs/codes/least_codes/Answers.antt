@@ -3,6 +3,7 @@ use Rattle.gate_core.specs.declared.codes.CodesFault.TheVariants.{Clash}
 use Rattle.gate_core.specs.Matching.{IsMatching}
 use Rattle.gate_core.specs.Patterns.{MayHave}
 use Rattle.gate_core.specs.Least.{AreLeast, IsFirstClash}
+use Rattle.gate_core.proofs.CodesLemmas.{least_are_codes}
 use Rattle.gate_core.proofs.LeastLemmas.{top_is, least_more, finished}
 use Rattle.gate_core.proofs.codes.least_codes.Goals as goal
 
@@ -19,6 +20,12 @@ returns-in-Ok-to_vec-clause-least c =
     (finished c.args.given.now (1 * 2 ^ c.args.bits % 65536) (length c.args.given.now) c.loop-s.fixed c.loop-s.words c.in-Ok-to_vec.codes.items refl (omega (arith, c.requires.few, c.loop-s-test.array_long))
     (subst (λ s. IsMatching (MayHave c.args.given.now (take s c.loop-s.fixed)) (1 * 2 ^ c.args.bits % 65536) (length c.args.given.now) c.loop-s.words) ended c.loop-s.invariant.words)
     (λ other k l. c.loop-s.invariant.least other k (omega (arith, l, ended))) (c.in-Ok-to_vec.ensures.items_if_clones_equal (λ x y same. same)))
+
+pub returns-in-Ok-to_vec-clause-codes : goal.returns-in-Ok-to_vec-clause-codes
+returns-in-Ok-to_vec-clause-codes c = (least_are_codes c.args.given.now c.args.bits c.in-Ok-to_vec.codes.items (returns-in-Ok-to_vec-clause-least c)).0
+
+pub returns-in-Ok-to_vec-clause-given : goal.returns-in-Ok-to_vec-clause-given
+returns-in-Ok-to_vec-clause-given c = (least_are_codes c.args.given.now c.args.bits c.in-Ok-to_vec.codes.items (returns-in-Ok-to_vec-clause-least c)).1
 
 pub returns-in-Err-clause-clash : goal.returns-in-Err-clause-clash
 returns-in-Err-clause-clash c = λ k h.
