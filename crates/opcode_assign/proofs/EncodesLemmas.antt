@@ -11,9 +11,9 @@ use Rattle.cpog_defs.specs.Orders.{Order}
 use Rattle.cpog_defs.specs.Gates.{GateList}
 use Rattle.cpog_defs.specs.Encodings.{Encoding, IsEncoding, Fits, Encodes}
 use Rattle.gate_core.specs.Serving.{ReferencesServe}
-use Rattle.cpog_merge.specs.Table.{Table, AgreesWithTable}
-use Rattle.cpog_merge.specs.Classes.{Classes, class_column, AreClassesOf}
-use Rattle.cpog_merge.specs.ByClass.{class_ref, AgreeWithClasses, IsGraphByClass}
+use Rattle.cpog_merge.specs.Columns.{Columns, AgreesWith}
+use Rattle.cpog_merge.specs.Classes.{Classes, AreClassesOf}
+use Rattle.cpog_merge.specs.ByClass.{IsGraphByClass}
 use Rattle.cpog_merge.proofs.AgreeLemmas.{graph_by_class_lem}
 
 -- ---- codes with no given bit
@@ -30,16 +30,9 @@ keeps_open codes n each = record {
   kept = λ s word i pattern at given. subst (λ p. Agrees (entry_at p i) (bit word i)) (sym (open_at n s pattern given)) tt;
 }
 
--- ---- references of classes
-
--- the references of the classes' columns agree with the classes
-agree_with_classes : (list : Classes) (codes : List ℕ) (gates : GateList) (refs : List Ref) → ReferencesServe list.columns codes gates refs → AgreeWithClasses gates codes list refs
-agree_with_classes list codes gates refs serves c lt =
-    serves.agrees c (class_column list c) (class_ref refs c) (slice_get-get_or list.columns c [] lt) (slice_get-get_or refs c (Const false) (omega (arith, lt, serves.one_each)))
-
 -- codes and gates that serve the classes, and a graph whose conditions are those of the classes, encode the scenarios
-pub by_class_encodes : (count bits : ℕ) (orders : List Order) (t : Table) (list : Classes) (refs : List Ref) (e : Encoding)
-    → ((f : Encoding) → IsEncoding count f → Fits f orders ↔ AgreesWithTable f t) → t.scenarios ≡ length orders → t.count ≡ count → AreClassesOf t list
+pub by_class_encodes : (count bits : ℕ) (orders : List Order) (t : Columns) (list : Classes) (refs : List Ref) (e : Encoding)
+    → ((f : Encoding) → IsEncoding count f → Fits f orders ↔ AgreesWith f t) → t.scenarios ≡ length orders → t.count ≡ count → AreClassesOf t list
     → e.gates.inputs ≡ bits → AreCodes bits (length orders) e.codes → IsEncoding count e
     → ReferencesServe list.columns e.codes e.gates refs → IsGraphByClass count list refs e.graph
     → Encodes count orders (open_patterns (length orders)) bits e
@@ -48,6 +41,6 @@ by_class_encodes count bits orders t list refs e fits scenarios same are inputs 
   codes = codes;
   given = keeps_open e.codes (length orders) codes.one_each;
   encoding = encoding;
-  fits = (fits e encoding).1 (graph_by_class_lem e t list refs are (codes.one_each ∙ sym scenarios) (agree_with_classes list e.codes e.gates refs serves)
+  fits = (fits e encoding).1 (graph_by_class_lem e t list refs are (codes.one_each ∙ sym scenarios) serves
       (subst (λ n. IsGraphByClass n list refs e.graph) (sym same) graph));
 }

@@ -4,14 +4,14 @@ use Rattle.cpog_defs.specs.declared.types.Ref.{Ref}
 use Rattle.cpog_defs.specs.Orders.{Order}
 use Rattle.cpog_defs.specs.Encodings.{Encoding, IsEncoding}
 use Rattle.gate_core.specs.First.{IsFirstEncoding}
-use Rattle.cpog_merge.specs.Table.{Table, AreColumnsOf}
+use Rattle.cpog_merge.specs.Columns.{Columns, AreColumnsOf}
 use Rattle.cpog_merge.specs.Classes.{Classes, AreClassesOf}
 use Rattle.cpog_merge.specs.ByClass.{IsGraphByClass}
 
 -- the codes, gates and references of the first encoding of the classes, and for each operation and each pair the reference that its column takes by its class
 pub record IsFirstAssignment (count : ℕ) (orders : List Order) (bits : ℕ) (e : Encoding) : Type 0 where
   pub encoding : IsEncoding count e
-  pub table : Table
+  pub table : Columns
   pub count_is : table.count ≡ count
   pub columns : AreColumnsOf orders table
   pub classes : Classes

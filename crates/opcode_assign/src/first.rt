@@ -3,13 +3,13 @@ ghost use Rattle.std.specs.List.{All};
 ghost use Rattle.cpog_defs.specs.Codes.{open_patterns};
 ghost use Rattle.cpog_defs.specs.Orders.{IsOrderOf};
 ghost use Rattle.cpog_defs.specs.Encodings.{Encodes};
-ghost use Rattle.cpog_merge.specs.Table.{count_of};
+ghost use Rattle.cpog_merge.specs.Columns.{count_of};
 ghost use Rattle.opcode_assign.specs.Assignments.{IsFirstAssignment};
 
-use crate::conditions::graph_by_class;
-use cpog_base::{Memory, Order};
-use cpog_merge::{classes, merge};
+use cpog_base::Memory;
+use cpog_merge::{classes, graph_by_class, merge};
 use gate_core::{Encoding, FirstEncoding, first_encode};
+use order_reduce::CoveredOrder;
 use std::alloc::Global;
 
 /// An encoding of 1 to 64 scenarios of one count of operations, over codes of so many bits: that of the classes of their
@@ -18,7 +18,7 @@ use std::alloc::Global;
 /// # Errors
 ///
 /// `Memory` where none is left.
-pub fn first_assign(alloc: Global, orders: &[Order], bits: u8) -> Result<Encoding, Memory>
+pub fn first_assign(alloc: Global, orders: &[CoveredOrder], bits: u8) -> Result<Encoding, Memory>
     requires some { 1 ≤ length orders.now }
     requires few { length orders.now ≤ 64 }
     requires alike { All (IsOrderOf (count_of orders.now)) orders.now }
@@ -38,6 +38,6 @@ pub fn first_assign(alloc: Global, orders: &[Order], bits: u8) -> Result<Encodin
         columns.scenarios(),
         bits,
     )?;
-    let graph = graph_by_class(alloc, columns.count(), &list, &refs)?;
+    let graph = graph_by_class(alloc, &list, &refs)?;
     Ok(Encoding::new(codes, gates, graph))
 }

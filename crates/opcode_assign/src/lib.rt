@@ -5,7 +5,6 @@
 #![tactic(auto)]
 
 mod bits;
-mod conditions;
 mod first;
 mod laws;
 

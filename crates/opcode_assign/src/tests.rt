@@ -6,11 +6,12 @@ ghost use Rattle.cpog_defs.specs.Orders.{IsOrderOf};
 use super::*;
 use cpog_base::{Memory, OpId, OpSet, Order, empty_sets};
 use gate_core::{Gate, Ref};
+use order_reduce::CoveredOrder;
 use std::alloc::Global;
 use std::test::Fail;
 
 /// These operations of four, in any order.
-fn together(alloc: Global, u: OpId, v: OpId, w: OpId) -> Result<Order, Memory>
+fn together(alloc: Global, u: OpId, v: OpId, w: OpId) -> Result<CoveredOrder, Memory>
     requires first { u.0 < 4 }
     requires second { v.0 < 4 }
     requires third { w.0 < 4 }
@@ -21,7 +22,7 @@ fn together(alloc: Global, u: OpId, v: OpId, w: OpId) -> Result<Order, Memory>
     ops.insert(v);
     ops.insert(w);
     let before = empty_sets(alloc, 4)?;
-    Ok(Order::from_sets(ops, before))
+    CoveredOrder::new(alloc, Order::from_sets(ops, before))
 }
 
 /// The operations are there as 101, 011, 100 and 111 in three scenarios: the first where `x0` is 0, the second where one

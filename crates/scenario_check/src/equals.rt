@@ -16,7 +16,7 @@ fn same_members(a: &OpSet, b: &OpSet) -> bool
 
 /// Whether two orders have the same operations and the same before relation. How many operations there may be isn't
 /// compared: an operation that neither scenario has makes no difference.
-pub fn are_equal(a: &Order, b: &Order) -> bool
+fn are_equal(a: &Order, b: &Order) -> bool
     ensures { IsTrue result ↔ AreEqual a.now b.now }
 {
     if !same_members(&a.ops(), &b.ops()) {

@@ -1,5 +1,5 @@
 use Rattle.std.proofs.Common.{rules}
-use Rattle.cpog_merge.specs.Table.{count_of}
+use Rattle.cpog_merge.specs.Columns.{count_of}
 use Rattle.cpog_merge.proofs.SmallerLemmas.{joining_lem}
 use Rattle.gate_core.proofs.BoundLemmas.{few_by_smaller}
 use Rattle.opcode_assign.proofs.EncodesLemmas.{by_class_encodes}
