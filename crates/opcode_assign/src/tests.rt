@@ -5,7 +5,7 @@ ghost use Rattle.cpog_defs.specs.Orders.{IsOrderOf};
 
 use super::*;
 use cpog_base::{Memory, OpId, OpSet, Order, empty_sets};
-use gate_core::{Gate, Ref};
+use gate_core::{Gate, Ref, free_patterns};
 use order_reduce::CoveredOrder;
 use std::alloc::Global;
 use std::test::Fail;
@@ -33,7 +33,8 @@ fn three_scenarios_take_one_gate(rt: HostRuntime) -> Result<(), Fail> {
     orders.push(together(rt.alloc(), OpId(0), OpId(2), OpId(3))?)?;
     orders.push(together(rt.alloc(), OpId(1), OpId(3), OpId(3))?)?;
     orders.push(together(rt.alloc(), OpId(0), OpId(1), OpId(3))?)?;
-    let encoding = first_assign(rt.alloc(), &orders, default_bits(3))?;
+    let given = free_patterns(rt.alloc(), 3, default_bits(3, 1))?;
+    let encoding = first_assign(rt.alloc(), &orders, &given, default_bits(3, 1)).expect(&rt, "there is memory");
     assert_eq!(rt; encoding.codes(), [0, 1, 2].as_slice());
     let exclusive_or = Gate {
         j: 0,
