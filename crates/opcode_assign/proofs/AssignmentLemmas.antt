@@ -1,13 +1,6 @@
 -- Scenarios have one first assignment.
-use Rattle.std.proofs.Common.{◌≡◌, ℕ, suc, ◌^◌, ◌<◌, false, IsTrue, List, [], ◌∷◌, length, map, slice_index_or, refl, sym, ap, ap₂, ◌∙◌, inl, inr, arith, subst}
-use Rattle.std.specs.List.{All, list_any}
-use Rattle.std.proofs.lemmas.Bool.{cases_eq}
-use Rattle.std.proofs.lemmas.List.{ext_get_or}
-use Rattle.cpog_base.specs.Column.{is_one, is_zero}
-use Rattle.cpog_defs.specs.declared.types.Ref.TheVariants.{Const}
-use Rattle.cpog_defs.specs.declared.types.Place.{Place}
-use Rattle.cpog_defs.specs.declared.types.Place.TheVariants.{Op, Arc}
-use Rattle.cpog_defs.specs.Graphs.{ConditionalGraph, IsPlace, IsGraph, ref_of}
+use Rattle.std.proofs.Common.{◌≡◌, ℕ, ◌^◌, List, sym, ap, ap₂, ◌∙◌, subst}
+use Rattle.cpog_defs.specs.Graphs.{IsPlace}
 use Rattle.cpog_defs.specs.Encodings.{Encoding}
 use Rattle.gate_core.specs.First.{FirstEncoding, IsFirstEncoding}
 use Rattle.cpog_merge.specs.Columns.{AreSameColumns}

@@ -34,7 +34,10 @@ fn three_scenarios_take_one_gate(rt: HostRuntime) -> Result<(), Fail> {
     orders.push(together(rt.alloc(), OpId(1), OpId(3), OpId(3))?)?;
     orders.push(together(rt.alloc(), OpId(0), OpId(1), OpId(3))?)?;
     let given = free_patterns(rt.alloc(), 3, default_bits(3, 1))?;
-    let encoding = first_assign(rt.alloc(), &orders, &given, default_bits(3, 1)).expect(&rt, "there is memory");
+    let encoding = first_assign(rt.alloc(), &orders, &given, default_bits(3, 1)).expect(
+        &rt,
+        "there is memory",
+    );
     assert_eq!(rt; encoding.codes(), [0, 1, 2].as_slice());
     let exclusive_or = Gate {
         j: 0,

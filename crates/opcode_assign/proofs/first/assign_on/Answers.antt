@@ -1,8 +1,7 @@
-use Rattle.std.proofs.Common.{◌≡◌, ℕ, List, length, rules, sym, ap, ap₂, subst, ◌∙◌}
+use Rattle.std.proofs.Common.{◌≡◌, length, rules, sym, subst, ◌∙◌}
 use Rattle.std.specs.List.{All}
 use Rattle.cpog_defs.specs.Codes.{AreCodes, KeepGivenBits}
-use Rattle.cpog_defs.specs.Gates.{GateList, IsRefOver, signal_count}
-use Rattle.cpog_defs.specs.Graphs.{IsGraph}
+use Rattle.cpog_defs.specs.Gates.{IsRefOver, signal_count}
 use Rattle.cpog_defs.specs.Encodings.{Encoding, IsEncoding, Encodes}
 use Rattle.cpog_merge.specs.Columns.{count_of}
 use Rattle.cpog_merge.specs.ByClass.{IsGraphByClass}
