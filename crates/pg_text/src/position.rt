@@ -4,7 +4,7 @@ ghost use Rattle.pg_text.specs.Writing.{needs};
 
 /// What may stand in a place of the written text without parentheses.
 #[derive(Clone, Copy, Debug, PartialEq, Eq)]
-pub(crate) enum Place {
+pub(crate) enum Position {
     /// A sum, a product or a factor.
     Sum,
     /// A product or a factor.
@@ -13,14 +13,14 @@ pub(crate) enum Place {
     Factor,
 }
 
-impl Place {
+impl Position {
     /// Whether a product needs parentheses here.
     pub fn encloses_product(self) -> bool
         ensures { result ≡ needs self product }
     {
         match self {
-            Place::Sum | Place::Product => false,
-            Place::Factor => true,
+            Position::Sum | Position::Product => false,
+            Position::Factor => true,
         }
     }
 
@@ -29,8 +29,8 @@ impl Place {
         ensures { result ≡ needs self sum }
     {
         match self {
-            Place::Sum => false,
-            Place::Product | Place::Factor => true,
+            Position::Sum => false,
+            Position::Product | Position::Factor => true,
         }
     }
 }
