@@ -21,7 +21,7 @@ use Rattle.pg_algebra.proofs.KnownLemmas.{knows-Param}
 use Rattle.pg_algebra.proofs.TreeLaws.{params_of-Not, params_of-And, params_of-Or}
 use Rattle.pg_text.specs.declared.statement.Statement.{Statement}
 use Rattle.pg_text.specs.declared.statement.Numbered.{Numbered}
-use Rattle.pg_normal.specs.declared.naming.Scope.{Scope}
+use Rattle.pg_normal.specs.declared.scope.Scope.{Scope}
 use Rattle.pg_normal.specs.declared.naming.NameFault.{NameFault}
 use Rattle.pg_normal.specs.declared.naming.NameFault.TheVariants as fault
 use Rattle.pg_normal.specs.Naming.{param_used, uses, unknown_param, unknown, expr_faults, statement_faults, scope_after, scope_from, faults_from, first, IsFirst}

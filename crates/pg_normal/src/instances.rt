@@ -9,17 +9,10 @@ ghost use Rattle.pg_normal.specs.Instances.{Agrees, IsInstance, IsInstanceFault,
 ghost use Rattle.pg_normal.specs.Changes.{Differs, Keeps, KeepsVertices, KeepsArcs, KeepsGraph, VertexDiffers, ArcDiffers, IsBelow};
 ghost use Rattle.pg_normal.specs.declared.instances.InstanceFault.TheVariants as fault;
 
-use crate::NormalForm;
+use crate::{NormalForm, Partial};
 use cpog_base::{Memory, OpId, Scenario};
 use pg_algebra::Table;
 use std::alloc::Global;
-
-/// Bits of some parameters: which are fixed, and their values.
-#[derive(Clone, Copy, Debug, PartialEq, Eq)]
-pub struct Partial {
-    pub fixed: u8,
-    pub values: u8,
-}
 
 /// Why a form under bindings is no scenario.
 #[derive(Clone, Copy, Debug, PartialEq, Eq)]
@@ -71,13 +64,13 @@ fn literal(k: u8, set: bool) -> Table
 }
 
 /// The valuations that agree with the bindings.
-fn agreeing(bound: Partial) -> Table
-    ensures { (n : ℕ) → n < 64 → (bit result.0 n ≡ true) ↔ Agrees bound.fixed bound.values n }
+fn agreeing(binding: Partial) -> Table
+    ensures { (n : ℕ) → n < 64 → (bit result.0 n ≡ true) ↔ Agrees binding.fixed binding.values n }
 {
     let mut all = Table::constant(true);
     'parameters: for k in 0..6 {
-        if is_set(bound.fixed, k) {
-            all = all.and(literal(k, is_set(bound.values, k)));
+        if is_set(binding.fixed, k) {
+            all = all.and(literal(k, is_set(binding.values, k)));
         }
     }
     all
@@ -129,12 +122,12 @@ fn graph_changes(form: &NormalForm, k: u8, among: Table) -> bool
 }
 
 /// The least parameter that is not bound and changes the graph under some of these valuations.
-fn first_unbound(form: &NormalForm, bound: Partial, among: Table) -> Option<u8>
-    requires { (n : ℕ) → n < 64 → (bit among.0 n ≡ true) ↔ Agrees bound.fixed bound.values n }
-    ensures { MatchOption result ((k : ℕ) → k < 6 → bit bound.fixed k ≡ false → KeepsGraph form.now k among.0) (IsUnbound form.now bound.fixed bound.values) }
+fn first_unbound(form: &NormalForm, binding: Partial, among: Table) -> Option<u8>
+    requires { (n : ℕ) → n < 64 → (bit among.0 n ≡ true) ↔ Agrees binding.fixed binding.values n }
+    ensures { MatchOption result ((k : ℕ) → k < 6 → bit binding.fixed k ≡ false → KeepsGraph form.now k among.0) (IsUnbound form.now binding.fixed binding.values) }
 {
     'parameters: for k in 0..6 {
-        if !is_set(bound.fixed, k) && graph_changes(form, k, among) {
+        if !is_set(binding.fixed, k) && graph_changes(form, k, among) {
             return Some(k);
         }
     }
@@ -199,18 +192,18 @@ fn scenario_at(alloc: Global, form: &NormalForm, n: u8, count: u8) -> Result<Sce
 pub fn instance(
     alloc: Global,
     form: &NormalForm,
-    bound: Partial,
+    binding: Partial,
     count: u8,
 ) -> Result<Scenario, InstanceFault>
     requires few { count ≤ 128 }
     requires below { IsBelow count form.now }
-    requires values { bound.values < 64 }
-    ensures ok { IfOk result (IsInstance form.now bound.fixed bound.values count) }
-    ensures err { IfErr result (IsInstanceFault form.now bound.fixed bound.values) }
+    requires values { binding.values < 64 }
+    ensures ok { IfOk result (IsInstance form.now binding.fixed binding.values count) }
+    ensures err { IfErr result (IsInstanceFault form.now binding.fixed binding.values) }
 {
-    if let Some(k) = first_unbound(form, bound, agreeing(bound)) {
+    if let Some(k) = first_unbound(form, binding, agreeing(binding)) {
         return Err(InstanceFault::Unbound(k));
     }
-    let scenario = scenario_at(alloc, form, bound.values, count)?;
+    let scenario = scenario_at(alloc, form, binding.values, count)?;
     Ok(scenario)
 }

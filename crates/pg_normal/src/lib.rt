@@ -12,6 +12,9 @@
 #![tactic(auto)]
 
 mod adding;
+mod appearance;
+mod binding;
+mod denoting;
 mod form;
 mod instances;
 mod known;
@@ -20,23 +23,27 @@ mod lines;
 mod listing;
 mod making;
 mod naming;
-mod order;
+mod normal;
 mod row;
+mod scope;
 mod tables;
 #[cfg(test)]
 mod tests;
 mod writing;
 
+pub(crate) use appearance::Appearance;
+pub use binding::Partial;
+pub use denoting::{DenotingFault, scenarios_of};
 pub use form::NormalForm;
-pub use instances::{InstanceFault, Partial, instance};
+pub use instances::{InstanceFault, instance};
 pub(crate) use known::Known;
 pub use laws::{forms_have_no_fault, one_name_fault, one_normal_text};
-pub use lines::write_normal;
-pub use listing::{NormalList, normals};
+pub use lines::{write_forms, write_normal};
+pub use listing::{forms_in, normals};
 pub(crate) use making::{form_of, with_graph};
-pub use naming::NameFault;
-pub(crate) use naming::Scope;
-pub(crate) use order::Order;
+pub use naming::{NameFault, scope_of};
+pub use normal::{Kind, Normal, NormalList, Origin};
 pub(crate) use row::Row;
+pub use scope::Scope;
 pub(crate) use tables::Tables;
 pub use writing::write_form;

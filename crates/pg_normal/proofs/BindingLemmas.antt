@@ -16,12 +16,12 @@ use Rattle.pg_text.specs.Numbers.{numbers_of, row_numbers, statement_numbers}
 use Rattle.pg_text.specs.Contents.{Contents}
 use Rattle.pg_text.specs.Text.{IsFile}
 use Rattle.pg_text.proofs.NumberLaws.{statement-below}
-use Rattle.pg_normal.specs.declared.instances.Partial.{Partial}
-use Rattle.pg_normal.specs.declared.listing.Normal.{Normal}
+use Rattle.pg_normal.specs.declared.binding.Partial.{Partial}
+use Rattle.pg_normal.specs.declared.normal.Normal.{Normal}
 use Rattle.pg_normal.specs.Appearing.{has, appearing, appearing_row, with_number, with_numbers, first_appearing}
 use Rattle.pg_normal.specs.Changes.{IsBelow}
 use Rattle.pg_normal.specs.Forms.{Form}
-use Rattle.pg_normal.specs.Normals.{Before, none_before, with_statement, params_in, is_place, IsBound, IsNormal, StatementNormals, AreNormals, AreNormalsOf}
+use Rattle.pg_normal.specs.Normals.{Before, none_before, with_statement, params_in, is_place, IsBinding, IsNormal, StatementNormals, AreNormals, AreNormalsOf}
 use Rattle.pg_normal.proofs.ListingLemmas.{all_left, all_right}
 
 all_both : {X : Type 0} (P : X → Type 0) (xs ys : List X) → AllByRecursion P xs → AllByRecursion P ys → AllByRecursion P (xs ++ ys)
@@ -52,7 +52,7 @@ some_pass p q (b ∷ bs) h = elim (or_cases (p b && q b) (list_any (λ x. p x &&
     later_passes true h = refl
     later_passes false h = h
 
-sets_only_fixed : (params : List (List ℕ)) (bindings : List (List ℕ × Bool)) (p : Partial) → IsBound params bindings p → SetsOnlyFixed p
+sets_only_fixed : (params : List (List ℕ)) (bindings : List (List ℕ × Bool)) (p : Partial) → IsBinding params bindings p → SetsOnlyFixed p
 sets_only_fixed params bindings p is k held = is.fixed k ∙ some_pass (λ b. is_place k (place_of params b.0)) (λ b. b.1) bindings (sym (is.values k) ∙ held)
 
 -- ---- the operations of expressions
@@ -107,11 +107,11 @@ module _ (count : ℕ) where
 
   -- what `instance` asks for
   abbrev Fits : Normal → Type 0
-  Fits x = IsBelow count x.form × ((x.bound.values < 64) × SetsOnlyFixed x.bound)
+  Fits x = IsBelow count x.form × ((x.binding.values < 64) × SetsOnlyFixed x.binding)
 
   normal_fits : (params : List (List ℕ)) (before : Before) (e : Expr) (bindings : List (List ℕ × Bool)) (x : Normal) → Orders before → Below (numbers_of e) → IsNormal params before e bindings x → Fits x
   normal_fits params before e bindings x h below is =
-      (of_keys x.form.vertices (subst Below (sym is.form.vertices) (all_filtered (λ v. v < count) _ (first_appearing before.orders e) (first_below before.orders h e below))), (is.bound.few.1, sets_only_fixed params bindings x.bound is.bound))
+      (of_keys x.form.vertices (subst Below (sym is.form.vertices) (all_filtered (λ v. v < count) _ (first_appearing before.orders e) (first_below before.orders h e below))), (is.binding.few.1, sets_only_fixed params bindings x.binding is.binding))
 
   statement_fits : (params : List (List ℕ)) (before : Before) (s : Statement) (R : List Normal → Type 0) → ((xs : List Normal) → R xs → AllByRecursion Fits xs) → Orders before → Below (statement_numbers s)
       → (xs : List Normal) → StatementNormals params before s R xs → AllByRecursion Fits xs
@@ -130,10 +130,10 @@ module _ (count : ℕ) where
   form_at (x ∷ xs) zero form all at = subst (IsBelow count) (sym at) all.0.0
   form_at (x ∷ xs) (suc i) form all at = form_at xs i form all.1 at
 
-  bound_at : (xs : List Normal) (i : ℕ) (bound : Partial) → AllByRecursion Fits xs → IsSomeAnd (slice_get xs i) (λ x. bound ≡ x.bound) → (bound.values < 64) × SetsOnlyFixed bound
-  bound_at [] i bound all at = absurd at
-  bound_at (x ∷ xs) zero bound all at = subst (λ p. (p.values < 64) × SetsOnlyFixed p) (sym at) all.0.1
-  bound_at (x ∷ xs) (suc i) bound all at = bound_at xs i bound all.1 at
+  binding_at : (xs : List Normal) (i : ℕ) (binding : Partial) → AllByRecursion Fits xs → IsSomeAnd (slice_get xs i) (λ x. binding ≡ x.binding) → (binding.values < 64) × SetsOnlyFixed binding
+  binding_at [] i binding all at = absurd at
+  binding_at (x ∷ xs) zero binding all at = subst (λ p. (p.values < 64) × SetsOnlyFixed p) (sym at) all.0.1
+  binding_at (x ∷ xs) (suc i) binding all at = binding_at xs i binding all.1 at
 
 each_fits : (f : Contents) (xs : List Normal) → IsFile f → AreNormalsOf f xs → AllByRecursion (Fits (length f.operations)) xs
 each_fits f xs file are = all_fit (length f.operations) (params_in f) f.statements none_before (λ i s at. statement-below f i s file at) (λ name. tt) xs are.forms
@@ -142,10 +142,10 @@ each_fits f xs file are = all_fit (length f.operations) (params_in f) f.statemen
 pub form_is_below : (f : Contents) (xs : List Normal) (i count : ℕ) (form : Form) → IsFile f → AreNormalsOf f xs → IsSomeAnd (slice_get xs i) (λ x. form ≡ x.form) → count ≡ length f.operations → IsBelow count form
 form_is_below f xs i count form file are at is = subst (λ k. IsBelow k form) (sym is) (form_at (length f.operations) xs i form (each_fits f xs file are) at)
 
--- bound parameters have six bits
-pub bound_is_few : (f : Contents) (xs : List Normal) (i : ℕ) (bound : Partial) → IsFile f → AreNormalsOf f xs → IsSomeAnd (slice_get xs i) (λ x. bound ≡ x.bound) → bound.values < 64
-bound_is_few f xs i bound file are at = (bound_at (length f.operations) xs i bound (each_fits f xs file are) at).0
+-- bindings have six bits
+pub binding_is_few : (f : Contents) (xs : List Normal) (i : ℕ) (binding : Partial) → IsFile f → AreNormalsOf f xs → IsSomeAnd (slice_get xs i) (λ x. binding ≡ x.binding) → binding.values < 64
+binding_is_few f xs i binding file are at = (binding_at (length f.operations) xs i binding (each_fits f xs file are) at).0
 
--- and a bit only where one is bound
-pub values_are_fixed : (f : Contents) (xs : List Normal) (i : ℕ) (bound : Partial) → IsFile f → AreNormalsOf f xs → IsSomeAnd (slice_get xs i) (λ x. bound ≡ x.bound) → SetsOnlyFixed bound
-values_are_fixed f xs i bound file are at = (bound_at (length f.operations) xs i bound (each_fits f xs file are) at).1
+-- and a value only where a parameter is bound
+pub values_are_fixed : (f : Contents) (xs : List Normal) (i : ℕ) (binding : Partial) → IsFile f → AreNormalsOf f xs → IsSomeAnd (slice_get xs i) (λ x. binding ≡ x.binding) → SetsOnlyFixed binding
+values_are_fixed f xs i binding file are at = (binding_at (length f.operations) xs i binding (each_fits f xs file are) at).1

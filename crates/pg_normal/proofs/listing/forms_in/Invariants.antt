@@ -1,6 +1,6 @@
 use Rattle.std.specs.Prelude.{◌≤◌, length}
 use Rattle.pg_normal.proofs.ListingLemmas.{At}
-use Rattle.pg_normal.proofs.listing.normals.Given as goal
+use Rattle.pg_normal.proofs.listing.forms_in.Given as goal
 
 abbrev pub invariant-statements : goal.invariant-statements
 invariant-statements l = record {

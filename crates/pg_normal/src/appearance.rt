@@ -10,11 +10,11 @@ use std::marker::Model;
 
 /// Different operations in a row.
 #[derive(Drop)]
-pub(crate) struct Order {
+pub(crate) struct Appearance {
     set: IndexSet<u32>,
 }
 
-impl Model for Order {
+impl Model for Appearance {
     ghost use Rattle.std.specs.Prelude.{List, ℕ, ◌==◌};
     ghost use Rattle.std.specs.List.{IsDistinct};
 
@@ -25,12 +25,12 @@ impl Model for Order {
     ghost invariant = { λ o. IsDistinct (λ v w. v == w) o.set.keys };
 }
 
-impl Order {
+impl Appearance {
     /// No operation yet.
-    pub(crate) fn new(alloc: Global) -> Order
+    pub(crate) fn new(alloc: Global) -> Appearance
         ensures { result ≡ [] }
     {
-        Order {
+        Appearance {
             set: IndexSet::new(alloc),
         }
     }
@@ -68,7 +68,7 @@ impl Order {
     /// # Errors
     ///
     /// `Memory` where none is left.
-    pub(crate) fn note_all(&mut self, more: &Order) -> Result<(), Memory>
+    pub(crate) fn note_all(&mut self, more: &Appearance) -> Result<(), Memory>
         ensures { OnOk result (self.new ≡ with_numbers self.old more.now) }
     {
         'places: for i in 0..more.len() {
