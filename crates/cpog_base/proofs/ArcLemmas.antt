@@ -1,10 +1,10 @@
 -- A scenario stays one as operations and arcs are added.
-use Rattle.std.proofs.Common.{◌≡◌, ◌≢◌, ℕ, zero, suc, ◌+◌, ◌<◌, ◌≤◌, ◌==◌, Bool, true, false, ◌&&◌, ◌||◌, IsTrue, List, [], ◌∷◌, ◌++◌, length, slice_index_or, slice_set, refl, sym, ap, ap₂, ◌∙◌, inl, inr, arith, length-append}
-use Rattle.std.specs.List.{AllPairs, Contains}
+use Rattle.std.proofs.Common.{◌≡◌, ◌≢◌, ℕ, zero, suc, ◌+◌, ◌<◌, ◌≤◌, ◌==◌, Bool, true, false, ◌&&◌, ◌||◌, IsTrue, List, [], ◌∷◌, ◌++◌, length, slice_index_or, slice_set, refl, sym, ap, ◌∙◌, inl, inr, arith, length-append}
+use Rattle.std.specs.List.{AllPairs}
 use Rattle.std.specs.Ordering.{nat_cmp}
 use Rattle.std.specs.Cmp.{nat_cmp_total, unsigned_tied}
 use Rattle.std.specs.FinSet as set
-use Rattle.std.proofs.lemmas.Bool.{cases_eq, cases_lt, both_ways, or_left, or_right, or_cases, and_parts, and_from, eq-eqb, ne_eqb, eqb-true}
+use Rattle.std.proofs.lemmas.Bool.{cases_eq, cases_lt, both_ways, or_left, or_right, or_cases, and_from, eq-eqb, ne_eqb, eqb-true}
 use Rattle.std.proofs.Math.Bool.{or-false}
 use Rattle.std.proofs.lemmas.List.{get_or_append_left, get_or_at, get_or-set_same, get_or-set_other}
 use Rattle.std.proofs.lemmas.List.Elements.{Contains-append_cases}
@@ -13,23 +13,7 @@ use Rattle.cpog_defs.specs.declared.types.OpId.{OpId}
 use Rattle.cpog_defs.specs.Orders.{Set, arc_of}
 use Rattle.cpog_defs.specs.Scenarios.{Scenario}
 use Rattle.cpog_base.specs.Arcs.{has_arc, IsStored}
-
-has_at : (arcs : List (OpId × OpId)) (u v k : ℕ) → k < length arcs → slice_index_or arcs k (arc_of u v) ≡ arc_of u v → IsTrue (has_arc arcs u v)
-has_at [] u v k l e = absurd (omega arith)
-has_at (a ∷ arcs) u v zero l e = or_left _ _ (and_from _ _ (eq-eqb a.0.0 u (ap (λ (x : OpId × OpId). x.0.0) e)) (eq-eqb a.1.0 v (ap (λ (x : OpId × OpId). x.1.0) e)))
-has_at (a ∷ arcs) u v (suc k) l e = or_right _ _ (has_at arcs u v k (omega arith) e)
-
--- an arc that is written is found
-pub has_from_contains : (arcs : List (OpId × OpId)) (u v : ℕ) → Contains arcs (arc_of u v) → IsTrue (has_arc arcs u v)
-has_from_contains arcs u v c = has_at arcs u v c.0 c.1 c.2
-
--- and what is found is written
-pub contains_from_has : (arcs : List (OpId × OpId)) (u v : ℕ) → IsTrue (has_arc arcs u v) → Contains arcs (arc_of u v)
-contains_from_has [] u v h = absurd (both_ways _ refl h)
-contains_from_has (a ∷ arcs) u v h = elim (or_cases _ _ h) [
-  | inl here ↦ let p = and_parts _ _ here in let same : a ≡ arc_of u v = ap₂ arc_of (eqb-true a.0.0 u p.0) (eqb-true a.1.0 v p.1) in (0, omega arith, same)
-  | inr later ↦ let c = contains_from_has arcs u v later in (suc c.0, omega (arith, c.1), c.2)
-]
+pub use Rattle.cpog_base.specs.RowLaws.{has_from_contains, contains_from_has}
 
 -- different elements and one that is none of them are different elements
 distinct_push : (xs : List (OpId × OpId)) (y : OpId × OpId) → AllPairs (λ a b. a ≢ b) xs → ((k : ℕ) (d : OpId × OpId) → k < length xs → slice_index_or xs k d ≢ y) → AllPairs (λ a b. a ≢ b) (xs ++ y ∷ [])

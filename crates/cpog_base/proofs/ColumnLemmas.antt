@@ -1,23 +1,21 @@
 -- What each step on the words of a column does to the column.
-use Rattle.std.proofs.Common.{◌≡◌, ℕ, zero, suc, ◌-◌, ◌*◌, ◌/◌, ◌%◌, ◌^◌, ◌<◌, ◌≤◌, ◌==◌, Bool, true, false, not, ◌||◌, if◌then◌else◌, IsTrue, List, [], ◌∷◌, length, cond, replicate, slice_get, slice_set, get_or, Some, bit_and, bit_or, nat_eq, refl, sym, ap, ◌∙◌, inl, inr, arith, ◌≢◌}
+use Rattle.std.proofs.Common.{◌≡◌, ℕ, zero, suc, ◌/◌, ◌%◌, ◌^◌, ◌<◌, ◌≤◌, ◌==◌, Bool, true, false, not, ◌||◌, if◌then◌else◌, IsTrue, List, [], ◌∷◌, length, replicate, slice_get, slice_set, get_or, Some, nat_eq, refl, sym, ap, ◌∙◌, inl, inr, arith, ◌≢◌}
 use Rattle.std.specs.List.{list_any}
 use Rattle.std.proofs.lemmas.List.Folds.{list_any-append}
-use Rattle.std.proofs.lemmas.Bool.{or_cases, ne_eqb, cases_Bool, cases_lt, cases_eq, both_ways, eq-eqb}
+use Rattle.std.proofs.lemmas.Bool.{or_cases, ne_eqb, cases_Bool, cases_eq, both_ways, eq-eqb}
 use Rattle.std.proofs.lemmas.Bool.Decides.{nat_tests}
-use Rattle.std.specs.Int.{w64}
-use Rattle.std.proofs.lemmas.Nat.{or_lt, and_le_l}
-use Rattle.std.proofs.Math.Pow.{pow-lt}
 use Rattle.std.proofs.Math.Nat.{one-le-pow}
 use Rattle.std.proofs.lemmas.List.{same_lists, get_or-replicate, get_or-set_same, get_or-set_other, length-replicate}
 use Rattle.std.proofs.Math.ListN.{length-set}
 use Rattle.std.proofs.lemmas.Option.{slice_get-get_or}
-use Rattle.std.proofs.lemmas.Nat.Bits.{shr_and_one, bit_at_set_same, bit_at_set_other, bit_at_clear_same, bit_at_clear_other, bit_at-lt, bit_at-zero, bit_at_above, same_from_bits_below}
+use Rattle.std.proofs.lemmas.Nat.Bits.{bit_at-lt, bit_at-zero, same_from_bits_below}
 use denote.Enum.Bare.{sameb}
 use Rattle.cpog_defs.specs.contracts.types.Bit3.{the_type}
 use Rattle.cpog_defs.specs.Codes.{bit}
 use Rattle.cpog_defs.specs.declared.types.Bit3.{Bit3}
 use Rattle.cpog_defs.specs.declared.types.Bit3.TheVariants.{Zero, One, Free}
-use Rattle.cpog_base.specs.Column.{is_one, is_zero, entry_of, entries, length-entries, get-entries, AreWords}
+use Rattle.cpog_base.specs.Column.{is_one, is_zero, entry_of, entries, AreWords}
+use Rattle.cpog_base.specs.ColumnLaws.{length-entries, get-entries}
 
 abbrev entry : Bool → Bool → Bit3
 entry o z = if o then One else (if z then Zero else Free)
@@ -77,39 +75,6 @@ has_one_tells n ones zeros h = any_tells is_one ones ones zeros (λ i. one_of (b
 
 pub has_zero_tells : (n ones zeros : ℕ) → AreWords n ones zeros → not (nat_eq zeros 0) ≡ list_any is_zero (entries n ones zeros)
 has_zero_tells n ones zeros h = any_tells is_zero zeros ones zeros (λ i. zero_of (bit ones i) (bit zeros i) (h.apart i)) n h.zeros_below
-
--- ---- one bit of a word
-
-same_as : (x : ℕ) (b : Bool) → x ≡ cond b 1 0 → (x == 1) ≡ b
-same_as x true h = rw h refl
-same_as x false h = rw h refl
-
-pub bit_read : (n i : ℕ) → (bit_and (n / 2 ^ i) 1 == 1) ≡ bit n i
-bit_read n i = ap (λ b. b == 1) (shr_and_one n i)
-
-power-lt : (i n : ℕ) → i < n → 1 * 2 ^ i % 2 ^ 64 < 2 ^ n
-power-lt i n l = let p : 2 ^ i < 2 ^ n = pow-lt l in omega arith
-
-pub raised_same : (n i : ℕ) → i < 64 → bit (bit_or n (1 * 2 ^ i % 2 ^ 64)) i ≡ true
-raised_same n i l = ap (λ b. b == 1) (bit_at_set_same w64 n i l)
-
-pub raised_other : (n i : ℕ) → i < 64 → (k : ℕ) → k ≢ i → bit (bit_or n (1 * 2 ^ i % 2 ^ 64)) k ≡ bit n k
-raised_other n i l k other = ap (λ b. b == 1) (bit_at_set_other w64 n i l k other)
-
-pub raised-lt : (word i n : ℕ) → i < n → word < 2 ^ n → bit_or word (1 * 2 ^ i % 2 ^ 64) < 2 ^ n
-raised-lt word i n l h = or_lt n word (1 * 2 ^ i % 2 ^ 64) h (power-lt i n l)
-
-pub lowered_same : (n i : ℕ) → i < 64 → bit (bit_and n (2 ^ 64 - 1 - 1 * 2 ^ i % 2 ^ 64)) i ≡ false
-lowered_same n i l = ap (λ b. b == 1) (bit_at_clear_same w64 n i l)
-
-pub lowered_other : (n i : ℕ) → n < 2 ^ 64 → i < 64 → (k : ℕ) → k ≢ i → bit (bit_and n (2 ^ 64 - 1 - 1 * 2 ^ i % 2 ^ 64)) k ≡ bit n k
-lowered_other n i h l k other = elim (cases_lt k 64) [
-  | inl m ↦ ap (λ b. b == 1) (bit_at_clear_other w64 n i l k m other)
-  | inr m ↦ ap (λ b. b == 1) (bit_at_above (bit_and n (2 ^ 64 - 1 - 1 * 2 ^ i % 2 ^ 64)) 64 k (omega (arith, and_le_l n (2 ^ 64 - 1 - 1 * 2 ^ i % 2 ^ 64))) m ∙ sym (bit_at_above n 64 k h m))
-]
-
-pub lowered-lt : (word i n : ℕ) → word < 2 ^ n → bit_and word (2 ^ 64 - 1 - 1 * 2 ^ i % 2 ^ 64) < 2 ^ n
-lowered-lt word i n h = omega (arith, and_le_l word (2 ^ 64 - 1 - 1 * 2 ^ i % 2 ^ 64))
 
 -- ---- one entry
 

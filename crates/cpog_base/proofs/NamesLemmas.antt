@@ -1,16 +1,17 @@
 -- A list of texts that is kept as an `IndexSet` of strings.
 use Rattle.std.specs.Prelude.{◌≡◌, ℕ, ◌+◌, ◌<◌, ◌≤◌, ◌^◌, ◌-◌, Bool, true, false, cond, not, ◌||◌, List, [], ◌∷◌, ◌++◌, map, length, position, Some, refl}
-use Rattle.std.proofs.Common.{inl, inr, sym, ◌∙◌, ap, arith, eq-eqb, length-append}
-use Rattle.std.proofs.lemmas.List.{length-map, map-append}
+use Rattle.std.proofs.Common.{zero, suc, inl, inr, sym, ◌∙◌, ap, arith, get_or, take, slice_get}
+use Rattle.std.proofs.lemmas.Option.{slice_get-get_or}
+use Rattle.std.proofs.lemmas.List.{length-map, map-append, same_lists, take_more}
 use Rattle.indexmap.specs.IndexSet.{insert_key}
-use Rattle.std.proofs.lemmas.Bool.{lt-ltb, both_ways, cases_Bool}
-use Rattle.std.proofs.lemmas.List.Folds.{position_or_len_push}
+use Rattle.std.proofs.lemmas.Bool.{both_ways, cases_Bool}
 use Rattle.std.specs.List.{list_any, IsDistinct, AllByRecursion, position_or_len}
 use Rattle.std.specs.Str.{bytes_eq}
 use Rattle.std.specs.Cmp.Lexicographic.{bytes_decides}
 use Rattle.std.specs.Prelude.{String}
 use Rattle.std.specs.String.{string_bytes, string_eq}
-use Rattle.cpog_base.specs.Names.{has_text, place_of, with_text, AreDistinct}
+use Rattle.cpog_base.specs.Names.{has_text, with_text, AreDistinct}
+pub use Rattle.cpog_base.specs.NamesLaws.{place-with_text}
 
 module _ {X Y : Type 0} (f : X → Y) (p : Y → Bool) where
   pub position_or_len-map : (xs : List X) → position_or_len p (map f xs) ≡ position_or_len (λ x. p (f x)) xs
@@ -23,36 +24,6 @@ module _ {X Y : Type 0} (f : X → Y) (p : Y → Bool) where
   pub list_any-map : (xs : List X) → list_any p (map f xs) ≡ list_any (λ x. p (f x)) xs
   list_any-map [] = refl
   list_any-map (x ∷ xs) = ap (λ b. p (f x) || b) (list_any-map xs)
-
--- where an element passes, the place of the first is in the list
-found_within : {X : Type 0} (p : X → Bool) (xs : List X) → list_any p xs ≡ true → position_or_len p xs < length xs
-found_within p [] h = absurd (both_ways _ refl h)
-found_within p (x ∷ xs) h = elim (p x) as (λ b. (b || list_any p xs) ≡ true → cond (not b) (1 + position_or_len p xs) 0 < length (x ∷ xs)) [
-  | true ↦ λ _. omega arith
-  | false ↦ λ rest. omega (arith, found_within p xs rest)
-] h
-
-not_found : {X : Type 0} (p : X → Bool) (xs : List X) → list_any p xs ≡ false → position_or_len p xs ≡ length xs
-not_found p [] h = refl
-not_found p (x ∷ xs) h = elim (p x) as (λ b. (b || list_any p xs) ≡ false → cond (not b) (1 + position_or_len p xs) 0 ≡ length (x ∷ xs)) [
-  | true ↦ λ no. absurd (both_ways _ no refl)
-  | false ↦ λ rest. omega (arith, not_found p xs rest)
-] h
-
-position-at : {X : Type 0} (p : X → Bool) (xs : List X) (i : ℕ) → position_or_len p xs ≡ i → i < length xs → position p xs ≡ Some i
-position-at p xs i e h = rw (e, lt-ltb i (length xs) h) refl
-
--- the place of a text once it is in the list
-pub place-with_text : (names : List (List ℕ)) (name : List ℕ) → place_of (with_text names name) name ≡ Some (position_or_len (bytes_eq name) names)
-place-with_text names name = elim (cases_Bool (has_text names name)) [
-  | inl there ↦ rw there (position-at (bytes_eq name) names (position_or_len (bytes_eq name) names) refl (found_within (bytes_eq name) names there))
-  | inr new ↦ rw new (position-at (bytes_eq name) (names ++ name ∷ []) (position_or_len (bytes_eq name) names) (at_end new) (let e = not_found (bytes_eq name) names new in omega (arith, e, length-append names (name ∷ []))))
-]
-  where
-    at_end : has_text names name ≡ false → position_or_len (bytes_eq name) (names ++ name ∷ []) ≡ position_or_len (bytes_eq name) names
-    at_end new =
-        position_or_len_push (bytes_eq name) names name
-        ∙ rw (eq-eqb _ _ (not_found (bytes_eq name) names new), (bytes_decides name name).1 refl) (omega (arith, not_found (bytes_eq name) names new))
 
 -- the texts of strings that differ are distinct
 pub AreDistinct-map : {Z : Type 0} (xs : List (String Z)) → IsDistinct string_eq xs → AreDistinct (map string_bytes xs)
@@ -80,3 +51,34 @@ texts-insert_key ks t =
     map-cond : (b : Bool) → map string_bytes (cond b ks (ks ++ t ∷ [])) ≡ cond b (map string_bytes ks) (map string_bytes ks ++ string_bytes t ∷ [])
     map-cond true = refl
     map-cond false = map-append string_bytes ks (t ∷ [])
+
+-- ---- a copy, and a comparison
+
+pub all_same : {X : Type 0} (xs ys : List X) → length xs ≡ length ys → ((k : ℕ) → k < length xs → slice_get xs k ≡ slice_get ys k) → xs ≡ ys
+all_same xs ys size same = same_lists xs ys size (λ k d l.
+    let e : Some (get_or xs k d) ≡ Some (get_or ys k d) = sym (slice_get-get_or xs k d l) ∙ same k l ∙ slice_get-get_or ys k d (omega (arith, size, l)) in
+    cc)
+
+differ_turned : (a b : List ℕ) → bytes_eq a b ≡ false → bytes_eq b a ≡ false
+differ_turned a b differ = elim (cases_Bool (bytes_eq b a)) [
+  | inl t ↦ absurd (both_ways _ differ ((bytes_decides a b).1 (sym ((bytes_decides b a).0 t))))
+  | inr f ↦ f
+]
+
+apart_at : (x : List ℕ) (ys : List (List ℕ)) (i : ℕ) → AllByRecursion (λ y. bytes_eq x y ≡ false) ys → i < length ys → bytes_eq x (get_or ys i []) ≡ false
+apart_at x [] i h l = absurd (omega arith)
+apart_at x (y ∷ ys) zero h l = h.0
+apart_at x (y ∷ ys) (suc i) h l = apart_at x ys i h.1 (omega arith)
+
+-- none of the names before a place is the name there
+new_there : (names : List (List ℕ)) (i : ℕ) → AreDistinct names → i < length names → has_text (take i names) (get_or names i []) ≡ false
+unfolding IsDistinct
+new_there [] i h l = absurd (omega arith)
+new_there (x ∷ xs) zero h l = refl
+new_there (x ∷ xs) (suc i) h l = rw (differ_turned x (get_or xs i []) (apart_at x xs i h.0 (omega arith))) (new_there xs i h.1 (omega arith))
+
+pub with_next : (names : List (List ℕ)) (i : ℕ) (name : List ℕ) → AreDistinct names → i < length names → slice_get names i ≡ Some name → with_text (take i names) name ≡ take (i + 1) names
+with_next names i name distinct l there =
+    let e : Some name ≡ Some (get_or names i []) = sym there ∙ slice_get-get_or names i [] l in
+    let is : name ≡ get_or names i [] = cc in
+    rw (is, new_there names i distinct l) (sym (take_more names i [] l))

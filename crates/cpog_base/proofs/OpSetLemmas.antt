@@ -1,5 +1,5 @@
 -- What each step on the word of a set does to the set.
-use Rattle.std.specs.Prelude.{◌≡◌, ℕ, ◌+◌, ◌-◌, ◌*◌, ◌/◌, ◌%◌, ◌^◌, ◌<◌, ◌≤◌, true, false, cond, not, ◌==◌, ◌&&◌, ◌||◌, refl, nat_lt, max, min, bit_and, bit_or, count_ones}
+use Rattle.std.specs.Prelude.{◌≡◌, ℕ, ◌+◌, ◌-◌, ◌*◌, ◌/◌, ◌%◌, ◌^◌, ◌<◌, ◌≤◌, true, false, cond, not, ◌==◌, ◌&&◌, ◌||◌, refl, nat_lt, bit_and, bit_or, count_ones}
 use Rattle.std.proofs.Common.{suc, zero, inl, inr, sym, ◌∙◌, ap, arith}
 use Rattle.std.specs.Ordering.{nat_cmp}
 use Rattle.std.specs.Int.{bit_at, bit_not, trailing_zeros, w128}
@@ -7,14 +7,17 @@ use Rattle.std.specs.FinSet.{FinSet, empty, insert, remove, union, is_subset, co
 use Rattle.std.specs.Cmp.{nat_cmp_total, unsigned_tied}
 use Rattle.std.specs.Ordering.{eq_by_cmp}
 use Rattle.std.proofs.lemmas.Nat.{or_lt}
-use Rattle.std.proofs.lemmas.Nat.Bits.{bit_at-zero, bit_at-trailing_zeros, bit_at_or, bit_at_and, bit_at_not, bit_at_set_same, bit_at_set_other, bit_at_clear_same, bit_at_clear_other, shr_and_one, bit_at-lt, same_from_bits_below}
-use Rattle.std.proofs.lemmas.Bool.Decides.{eqb_tells, nat_tests, same_from_decides, Decides-eqb}
+use Rattle.std.proofs.lemmas.Nat.Bits.{bit_at-zero, bit_at-trailing_zeros, bit_at_set_same, bit_at_set_other, bit_at_clear_same, bit_at_clear_other, shr_and_one, bit_at-lt}
+use Rattle.std.proofs.lemmas.Bool.Decides.{eqb_tells, same_from_decides, Decides-eqb}
 use Rattle.std.proofs.lemmas.Bool.{cases_lt, and_right, ne_eqb, both_ways, le-ltb}
 use Rattle.std.proofs.Math.Arith.{mod-mul}
 use Rattle.std.specs.Int.Bits.{and_lt}
 use native.Mathlib.Nat.{pow-suc, mul_comm, le_refl, mod-lt, mod-one, mod-eq_of_lt}
 use Rattle.std.specs.Int.Count.{ones_cat, ones, ones_in}
-use Rattle.cpog_base.specs.OpSet.{set_below, set_of, contains-inside, contains-outside}
+use Rattle.cpog_defs.specs.Codes.{bit}
+use Rattle.cpog_base.specs.BitLaws.{bit-zero, bit-and, bit-or, bit-not, kept_out, none_out, same_words}
+use Rattle.cpog_base.specs.OpSet.{set_below, set_of, word_of}
+use Rattle.cpog_base.specs.OpSetLaws.{word_below-set_below, contains-inside, contains-outside}
 use Rattle.cpog_base.specs.Members.{IsFirst}
 
 -- a word stands for a set that has the same members
@@ -32,6 +35,11 @@ read_bit n v h = ap (λ b. b == 1) (shr_and_one n v) ∙ sym (contains-inside 12
 
 pub set_of-zero : set_of 0 ≡ empty
 set_of-zero = set_of-is 0 empty (λ q _. contains-empty nat_cmp q ∙ ap (λ b. b == 1) (sym (bit_at-zero q))) (λ q _. contains-empty nat_cmp q)
+
+pub none-set_of : (n : ℕ) → n < 2 ^ 128 → set_of n ≡ empty → n ≡ 0
+none-set_of n l none =
+    let back : word_of (set_of n) ≡ word_of (set_of 0) = ap word_of (none ∙ sym set_of-zero) in
+    sym (word_below-set_below 128 n l) ∙ back ∙ word_below-set_below 128 0 (omega arith)
 
 pub set_of-insert : (n v : ℕ) → v < 128 → set_of (bit_or n (1 * 2 ^ v % 2 ^ 128)) ≡ insert (set_of n) v
 set_of-insert n v h = set_of-is (bit_or n (1 * 2 ^ v % 2 ^ 128)) (insert (set_of n) v)
@@ -60,44 +68,32 @@ remove-outside n v h = set_of-is n (remove (set_of n) v)
     (λ q lt. contains-remove nat_cmp_total (set_of n) v q ∙ ap (λ b. not b && contains (set_of n) q) (unsigned_tied q v ∙ ne_eqb q v (λ e. absurd (omega arith))) ∙ contains-inside 128 n q lt)
     (λ q le. contains-remove nat_cmp_total (set_of n) v q ∙ ap (λ b. not (eq_by_cmp nat_cmp q v) && b) (contains-outside 128 n q le) ∙ and_right (not (eq_by_cmp nat_cmp q v)) false refl)
 
-one_of_two : (a b : ℕ) → a < 2 → b < 2 → ((a == 1) || (b == 1)) ≡ (max a b == 1)
-one_of_two a b ha hb = grind (arith, nat_tests)
-
-none_left : (a b : ℕ) → a < 2 → b < 2 → min a (1 - b) ≡ 0 → (a == 1) ≡ true → (b == 1) ≡ true
-none_left a b ha hb h one = grind (arith, nat_tests)
-
-left_out : (a b : ℕ) → a < 2 → b < 2 → ((a == 1) ≡ true → (b == 1) ≡ true) → min a (1 - b) ≡ 0
-left_out a b ha hb h = grind (arith, nat_tests)
-
 pub set_of-union : (m n : ℕ) → set_of (bit_or m n) ≡ union (set_of m) (set_of n)
 set_of-union m n = set_of-is (bit_or m n) (union (set_of m) (set_of n))
-    (λ q lt. contains-union nat_cmp_total (set_of m) (set_of n) q ∙ rw (contains-inside 128 m q lt, contains-inside 128 n q lt, bit_at_or m n q) (one_of_two (bit_at m q) (bit_at n q) (bit_at-lt m q) (bit_at-lt n q)))
+    (λ q lt. contains-union nat_cmp_total (set_of m) (set_of n) q ∙ rw (contains-inside 128 m q lt, contains-inside 128 n q lt) (sym (bit-or m n q)))
     (λ q le. contains-union nat_cmp_total (set_of m) (set_of n) q ∙ rw (contains-outside 128 m q le, contains-outside 128 n q le) refl)
 
 -- bit i of a & !b
-cut_bit : (m n i : ℕ) → n < 2 ^ 128 → i < 128 → bit_at (bit_and m (2 ^ 128 - 1 - n)) i ≡ min (bit_at m i) (1 - bit_at n i)
-cut_bit m n i hn lt = bit_at_and m (bit_not w128 n) i ∙ ap (λ k. min (bit_at m i) k) (bit_at_not w128 n i hn lt)
-
-without : (a b : ℕ) → a < 2 → b < 2 → ((a == 1) && not (b == 1)) ≡ (min a (1 - b) == 1)
-without a b ha hb = grind (arith, nat_tests)
+cut_bit : (m n i : ℕ) → n < 2 ^ 128 → i < 128 → bit (bit_and m (2 ^ 128 - 1 - n)) i ≡ (bit m i && not (bit n i))
+cut_bit m n i hn lt = bit-and m (bit_not w128 n) i ∙ ap (λ k. bit m i && k) (bit-not w128 n i hn lt)
 
 pub set_of-difference : (m n : ℕ) → n < 2 ^ 128 → set_of (bit_and m (2 ^ 128 - 1 - n)) ≡ difference (set_of m) (set_of n)
 set_of-difference m n hn = set_of-is (bit_and m (2 ^ 128 - 1 - n)) (difference (set_of m) (set_of n))
-    (λ q lt. contains-difference nat_cmp_total (set_of m) (set_of n) q ∙ rw (contains-inside 128 m q lt, contains-inside 128 n q lt, cut_bit m n q hn lt) (without (bit_at m q) (bit_at n q) (bit_at-lt m q) (bit_at-lt n q)))
+    (λ q lt. contains-difference nat_cmp_total (set_of m) (set_of n) q ∙ rw (contains-inside 128 m q lt, contains-inside 128 n q lt) (sym (cut_bit m n q hn lt)))
     (λ q le. contains-difference nat_cmp_total (set_of m) (set_of n) q ∙ rw (contains-outside 128 m q le) refl)
 
 subset_from_word : (m n : ℕ) → n < 2 ^ 128 → bit_and m (2 ^ 128 - 1 - n) ≡ 0 → (q : ℕ) → contains (set_of m) q ≡ true → contains (set_of n) q ≡ true
 subset_from_word m n hn none q one = elim (cases_lt q 128) [
-  | inl lt ↦ contains-inside 128 n q lt ∙ none_left (bit_at m q) (bit_at n q) (bit_at-lt m q) (bit_at-lt n q)
-      (sym (cut_bit m n q hn lt) ∙ ap (λ k. bit_at k q) none ∙ bit_at-zero q) (sym (contains-inside 128 m q lt) ∙ one)
+  | inl lt ↦ contains-inside 128 n q lt
+      ∙ kept_out (bit m q) (bit n q) (sym (cut_bit m n q hn lt) ∙ ap (λ k. bit k q) none ∙ bit-zero q) (sym (contains-inside 128 m q lt) ∙ one)
   | inr le ↦ absurd (both_ways _ (contains-outside 128 m q le) one)
 ]
 
 word_from_subset : (m n : ℕ) → m < 2 ^ 128 → n < 2 ^ 128 → ((q : ℕ) → contains (set_of m) q ≡ true → contains (set_of n) q ≡ true) → bit_and m (2 ^ 128 - 1 - n) ≡ 0
-word_from_subset m n hm hn each = same_from_bits_below 128 (bit_and m (2 ^ 128 - 1 - n)) 0 (and_lt 128 m (2 ^ 128 - 1 - n) hm (omega arith)) (omega arith)
+word_from_subset m n hm hn each = same_words 128 (bit_and m (2 ^ 128 - 1 - n)) 0 (and_lt 128 m (2 ^ 128 - 1 - n) hm (omega arith)) (omega arith)
     (λ i lt. cut_bit m n i hn lt
-    ∙ left_out (bit_at m i) (bit_at n i) (bit_at-lt m i) (bit_at-lt n i) (λ one. sym (contains-inside 128 n i lt) ∙ each i (contains-inside 128 m i lt ∙ one))
-    ∙ sym (bit_at-zero i))
+    ∙ none_out (bit m i) (bit n i) (λ one. sym (contains-inside 128 n i lt) ∙ each i (contains-inside 128 m i lt ∙ one))
+    ∙ sym (bit-zero i))
 
 pub set_of-subset : (m n : ℕ) → m < 2 ^ 128 → n < 2 ^ 128 → (bit_and m (2 ^ 128 - 1 - n) == 0) ≡ is_subset (set_of m) (set_of n)
 set_of-subset m n hm hn = same_from_decides (bit_and m (2 ^ 128 - 1 - n) == 0) (is_subset (set_of m) (set_of n)) (Decides-eqb (bit_and m (2 ^ 128 - 1 - n)) 0) (

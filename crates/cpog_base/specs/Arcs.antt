@@ -1,14 +1,10 @@
 -- The arcs of a scenario, each written once.
-use Rattle.std.specs.Prelude.{◌≡◌, ℕ, ◌≤◌, ◌==◌, Bool, ◌&&◌, if◌then◌else◌, List, [], ◌∷◌, ◌++◌, slice_index_or}
-use Rattle.std.specs.List.{list_any}
+use Rattle.std.specs.Prelude.{◌≡◌, ℕ, ◌≤◌, if◌then◌else◌, List, [], ◌∷◌, ◌++◌, slice_index_or}
 use Rattle.std.specs.FinSet as set
 use Rattle.cpog_defs.specs.declared.types.OpId.{OpId}
 use Rattle.cpog_defs.specs.Orders.{Set, arc_of}
 use Rattle.cpog_defs.specs.Scenarios.{Scenario, IsScenario}
-
--- whether an arc from u to v is among these
-abbrev pub has_arc : List (OpId × OpId) → ℕ → ℕ → Bool
-has_arc arcs u v = list_any (λ a. (a.0.0 == u) && (a.1.0 == v)) arcs
+pub use Rattle.cpog_base.specs.Rows.{has_arc}
 
 -- the arcs with one more, which goes last where it is new
 abbrev pub with_arc : List (OpId × OpId) → ℕ → ℕ → List (OpId × OpId)

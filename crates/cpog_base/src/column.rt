@@ -1,12 +1,12 @@
 //! What the scenarios ask of one condition, one entry a scenario. Two words of bits say where the entry is One and
 //! where it is Zero, so a question about a whole column is a few steps.
 
-ghost use Rattle.std.specs.Prelude.{◌≡◌, ◌≢◌, ◌↔◌, ◌<◌, ◌≤◌, ◌^◌, ℕ, IsTrue, length, replicate, slice_get, slice_set, Some};
+ghost use Rattle.std.specs.Prelude.{◌≡◌, ◌↔◌, ◌<◌, ◌≤◌, IsTrue, length, replicate, slice_get, slice_set, Some};
 ghost use Rattle.std.specs.List.{list_any};
-ghost use Rattle.cpog_base.specs.Column.{is_one, is_zero, Serves, Opposes};
-ghost use Rattle.cpog_defs.specs.Codes.{bit};
+ghost use Rattle.cpog_base.specs.Column.{is_one, is_zero, Serves, Opposes, AgreesSomewhere, DiffersSomewhere};
 ghost use Rattle.cpog_defs.specs.declared.types.Bit3.TheVariants.{Free};
 
+use crate::bits::{has_bit, is_within, share_bit, with_bit};
 use cpog_defs::types::{Bit3, ScenId};
 use std::marker::Model;
 
@@ -21,7 +21,8 @@ pub struct Column {
 impl Model for Column {
     ghost use Rattle.std.specs.Prelude.{List, length};
     ghost use Rattle.cpog_defs.specs.declared.types.Bit3.{Bit3};
-    ghost use Rattle.cpog_base.specs.Column.{is_one, is_zero, entries, word_where, AreWords, words_back};
+    ghost use Rattle.cpog_base.specs.Column.{is_one, is_zero, entries, word_where, AreWords};
+    ghost use Rattle.cpog_base.specs.ColumnLaws.{words_back};
 
     ghost Value = { List Bit3 };
 
@@ -32,31 +33,6 @@ impl Model for Column {
     ghost inverse = { λ xs. record { ones = word_where is_one (length xs) xs; zeros = word_where is_zero (length xs) xs; len = length xs } };
 
     ghost inverse_ok = { λ c h. words_back c.len c.ones c.zeros h (λ n a b. record { ones = a; zeros = b; len = n }) };
-}
-
-fn has_bit(word: u64, i: u8) -> bool
-    requires { i < 64 }
-    ensures { result ≡ bit word i }
-{
-    word >> i & 1 == 1
-}
-
-/// The word with this value at bit i.
-fn with_bit(word: u64, i: u8, value: bool) -> u64
-    requires { i < 64 }
-    ensures same { bit result i ≡ value }
-    ensures others { (k : ℕ) → k ≢ i → bit result k ≡ bit word k }
-    ensures below { (n : ℕ) → i < n → word < 2 ^ n → result < 2 ^ n }
-{
-    let mask = 1 << i;
-    if value { word | mask } else { word & !mask }
-}
-
-/// Whether each bit of one word is a bit of the other.
-fn is_within(word: u64, other: u64) -> bool
-    ensures { IsTrue result ↔ ((i : ℕ) → IsTrue (bit word i) → IsTrue (bit other i)) }
-{
-    word & !other == 0
 }
 
 impl Column {
@@ -130,5 +106,20 @@ impl Column {
         ensures { IsTrue result ↔ Opposes self.now other.now }
     {
         is_within(other.ones, self.zeros) & is_within(other.zeros, self.ones)
+    }
+
+    /// Whether both columns ask for a bit, and for the same one, at some scenario. Two columns that agree somewhere and
+    /// differ somewhere are incompatible: no one signal, nor its complement, meets both.
+    pub fn agrees_somewhere(&self, other: &Column) -> bool
+        ensures { IsTrue result ↔ AgreesSomewhere self.now other.now }
+    {
+        share_bit(self.ones, other.ones) | share_bit(self.zeros, other.zeros)
+    }
+
+    /// Whether both columns ask for a bit, and for opposite ones, at some scenario.
+    pub fn differs_somewhere(&self, other: &Column) -> bool
+        ensures { IsTrue result ↔ DiffersSomewhere self.now other.now }
+    {
+        share_bit(self.ones, other.zeros) | share_bit(self.zeros, other.ones)
     }
 }

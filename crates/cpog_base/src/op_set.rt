@@ -1,4 +1,4 @@
-ghost use Rattle.std.specs.Prelude.{◌≡◌, ◌<◌, IfOk, MatchOption, replicate};
+ghost use Rattle.std.specs.Prelude.{◌≡◌, ◌↔◌, ◌<◌, IsTrue, IfOk, MatchOption, replicate};
 ghost use Rattle.std.specs.FinSet as set;
 ghost use Rattle.cpog_base.specs.Members.{IsFirst};
 
@@ -17,7 +17,8 @@ impl Model for OpSet {
     ghost use Rattle.std.specs.Prelude.{◌<◌, ◌^◌};
     ghost use Rattle.cpog_defs.specs.Orders.{Set};
     ghost use Rattle.cpog_defs.specs.Stored.{set_code};
-    ghost use Rattle.cpog_base.specs.OpSet.{set_of, word_of, word_below-set_below};
+    ghost use Rattle.cpog_base.specs.OpSet.{set_of, word_of};
+    ghost use Rattle.cpog_base.specs.OpSetLaws.{word_below-set_below};
     ghost use Rattle.std.proofs.Common.{ap};
 
     ghost Value = { Set };
@@ -39,6 +40,13 @@ impl OpSet {
         ensures { result ≡ set.empty }
     {
         OpSet { bits: 0 }
+    }
+
+    /// Whether there is no member.
+    pub fn is_empty(&self) -> bool
+        ensures { IsTrue result ↔ (self.now ≡ set.empty) }
+    {
+        self.bits == 0
     }
 
     /// Whether the operation is a member. No number from 128 on is one.

@@ -11,6 +11,8 @@ fn names_keep_their_places(rt: HostRuntime) -> Result<(), Fail> {
     assert_eq!(rt; names.len(), 3);
     assert_eq!(rt; names.find("fetch"), Some(1));
     assert_eq!(rt; names.find("wback"), None);
+    let copy = names.try_clone(rt.alloc())?;
+    assert!(rt; copy.equals(&names));
     Ok(())
 }
 

@@ -1,12 +1,31 @@
 //! The plain types that the definitions match on. The crates above re-export each where its users look for it.
+ghost use Rattle.std.specs.Prelude.{◌≡◌};
 
 /// An operation, by its number: its place among the operation names of the text, from 0.
 #[derive(Clone, Copy, Debug, PartialEq, Eq, PartialOrd, Ord, Hash)]
 pub struct OpId(pub u8);
 
+impl OpId {
+    /// Its number as the place in a list.
+    pub fn index(self) -> usize
+        ensures { result ≡ self.0 }
+    {
+        usize::from(self.0)
+    }
+}
+
 /// A scenario, by its number: its place among the scenarios of the text, from 0.
 #[derive(Clone, Copy, Debug, PartialEq, Eq, PartialOrd, Ord, Hash)]
 pub struct ScenId(pub u8);
+
+impl ScenId {
+    /// Its number as the place in a list.
+    pub fn index(self) -> usize
+        ensures { result ≡ self.0 }
+    {
+        usize::from(self.0)
+    }
+}
 
 /// What is asked of one bit: that it is 0, that it is 1, or nothing.
 #[derive(Clone, Copy, Debug, PartialEq, Eq)]

@@ -1,5 +1,5 @@
 use Rattle.std.proofs.Common.{◌∙◌, sym, ap, length, arith, refl}
-use Rattle.cpog_base.specs.Column.{length-entries}
+use Rattle.cpog_base.specs.ColumnLaws.{length-entries}
 use Rattle.cpog_base.proofs.ColumnLemmas.{read_entry}
 use Rattle.cpog_base.proofs.column.Column.get.Goals as goal
 

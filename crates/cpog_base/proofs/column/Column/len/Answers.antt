@@ -1,5 +1,5 @@
 use Rattle.std.proofs.Common.{◌≡◌, sym, ap, ◌∙◌, length, arith}
-use Rattle.cpog_base.specs.Column.{length-entries}
+use Rattle.cpog_base.specs.ColumnLaws.{length-entries}
 use Rattle.cpog_base.proofs.column.Column.len.Goals as goal
 
 pub returns : goal.returns

@@ -1,5 +1,5 @@
 use Rattle.std.proofs.Common.{◌<◌, ◌∙◌, ap, length, arith, slice_set}
-use Rattle.cpog_base.specs.Column.{length-entries}
+use Rattle.cpog_base.specs.ColumnLaws.{length-entries}
 use Rattle.cpog_base.proofs.ColumnLemmas.{one_is, zero_is, words_after, entries_after}
 use Rattle.cpog_base.proofs.column.Column.set.Goals as goal
 

@@ -1,6 +1,6 @@
 use Rattle.std.proofs.Common.{◌∙◌, sym, arith}
-use Rattle.cpog_base.proofs.ColumnLemmas.{raised_same, raised_other, raised-lt, lowered_same, lowered_other}
-use Rattle.cpog_base.proofs.column.with_bit.Goals as goal
+use Rattle.cpog_base.specs.BitLaws.{raised_same, raised_other, raised-lt, lowered_same, lowered_other}
+use Rattle.cpog_base.proofs.bits.with_bit.Goals as goal
 
 pub returns-then-value-clause-same : goal.returns-then-value-clause-same
 returns-then-value-clause-same c = raised_same c.args.word c.args.i c.requires ∙ sym c.if-value.true

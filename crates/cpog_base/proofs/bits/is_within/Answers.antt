@@ -1,7 +1,7 @@
 use Rattle.std.proofs.Common.{arith}
 use Rattle.std.proofs.lemmas.Bool.{eq-eqb, eqb-true}
-use Rattle.cpog_base.proofs.ServeLemmas.{within_from, from_within}
-use Rattle.cpog_base.proofs.column.is_within.Goals as goal
+use Rattle.cpog_base.proofs.BitLemmas.{within_from, from_within}
+use Rattle.cpog_base.proofs.bits.is_within.Goals as goal
 
 pub returns : goal.returns
 returns c =
