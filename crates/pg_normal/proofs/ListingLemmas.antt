@@ -1,15 +1,11 @@
 -- From names in order to forms.
-use Rattle.std.specs.Prelude.{◌≡◌, refl, ℕ, ◌<◌, ◌≤◌, ◌+◌, ◌*◌, ◌%◌, ◌^◌, ◌==◌, Bool, true, false, map, ◌&&◌, ◌||◌, bit_or, List, [], ◌∷◌, ◌++◌, length, slice_get, Some}
+use Rattle.std.specs.Prelude.{◌≡◌, ◌≢◌, refl, ℕ, ◌<◌, ◌≤◌, ◌+◌, ◌==◌, Bool, true, false, map, ◌&&◌, ◌||◌, List, [], ◌∷◌, ◌++◌, length, slice_get, Some}
 use Rattle.std.specs.List.{AllByRecursion, list_all, flat_map}
-use Rattle.std.specs.Int.{w8}
 use Rattle.std.proofs.Common.{ap, ap₂, ◌∙◌, sym, subst, drop, arith, inl, inr, append-nil, append_assoc, length-append}
 use Rattle.std.proofs.lemmas.List.{map-append}
 use Rattle.std.proofs.lemmas.Bool.{and_from, cases_eq, eq-eqb, ne_eqb, lt-ltb, or_left}
 use Rattle.std.proofs.lemmas.List.Folds.{list_any-append}
-use Rattle.std.proofs.lemmas.Nat.Bits.{bit_at_set_same, bit_at_set_other}
 use Rattle.std.proofs.lemmas.Grind.{flat_map-append}
-use Rattle.std.proofs.lemmas.Nat.{or_lt}
-use Rattle.std.proofs.Math.Pow.{pow-lt}
 use Rattle.std.proofs.lemmas.List.{drop_all}
 use Rattle.std.proofs.lemmas.List.Sums.{sum_by-cons}
 use Rattle.std.proofs.lemmas.List.Folds.{flat_map-map}
@@ -100,14 +96,12 @@ either_none : (a b : Bool) → b ≡ false → a ≡ (a || b)
 either_none true b h = refl
 either_none false b h = sym h
 
-pub bit_set : (n p k : ℕ) → p < 8 → bit (bit_or n (1 * 2 ^ p % 2 ^ 8)) k ≡ (bit n k || (p == k))
-bit_set n p k h = elim (cases_eq p k) [
-  | inl same ↦ ap (bit (bit_or n (1 * 2 ^ p % 2 ^ 8))) (sym same) ∙ ap (λ d. d == 1) (bit_at_set_same w8 n p h) ∙ either_one (bit n k) (p == k) (eq-eqb p k same)
-  | inr other ↦ ap (λ d. d == 1) (bit_at_set_other w8 n p h k (λ e. other (sym e))) ∙ either_none (bit n k) (p == k) (ne_eqb p k other)
+-- a word with one bit more
+pub bit_more : (w r p k : ℕ) → bit r p ≡ true → ((j : ℕ) → j ≢ p → bit r j ≡ bit w j) → bit r k ≡ (bit w k || (p == k))
+bit_more w r p k set others = elim (cases_eq p k) [
+  | inl same ↦ ap (bit r) (sym same) ∙ set ∙ either_one (bit w k) (p == k) (eq-eqb p k same)
+  | inr other ↦ others k (λ e. other (sym e)) ∙ either_none (bit w k) (p == k) (ne_eqb p k other)
 ]
-
-pub few_set : (n p : ℕ) → n < 64 → p < 6 → bit_or n (1 * 2 ^ p % 2 ^ 8) < 64
-few_set n p few h = or_lt 6 n (1 * 2 ^ p % 2 ^ 8) few (let less : 2 ^ p < 2 ^ 6 = pow-lt h in omega (arith, less))
 
 pub and_one : (a b c : Bool) → c ≡ true → (a || b) ≡ (a || (b && c))
 and_one a true c h = ap (λ x. a || x) (sym h)

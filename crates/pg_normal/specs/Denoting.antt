@@ -1,5 +1,6 @@
 -- The scenarios that a file denotes: each is the graph of its statement under every valuation that agrees with its bindings.
 use Rattle.std.specs.Prelude.{◌≡◌, ◌≢◌, ℕ, ◌<◌, Bool, true, List, [], ◌∷◌, ◌++◌, map, length, slice_get, Some}
+use Rattle.cpog_base.specs.declared.limits.TheConstants.{PARAM_LIMIT}
 use Rattle.cpog_defs.specs.Codes.{bit}
 use Rattle.cpog_defs.specs.Scenarios.{Scenario}
 use Rattle.pg_algebra.specs.Conditions.{valuation}
@@ -55,7 +56,7 @@ scenario_names_of f = map (λ x. x.name) (stated_in f)
 
 -- under valuation n each parameter that is fixed has its bit
 abbrev pub AgreesWith : Stated → ℕ → Type 0
-AgreesWith x n = (k : ℕ) → k < 6 → x.fixed k ≡ true → bit n k ≡ x.values k
+AgreesWith x n = (k : ℕ) → k < PARAM_LIMIT → x.fixed k ≡ true → bit n k ≡ x.values k
 
 -- the scenario is the stated graph under every valuation that agrees with the bindings
 abbrev pub IsDenoted : ℕ → Stated → Scenario → Type 0
@@ -75,7 +76,7 @@ AreScenariosOf f scenarios = AreDenoted (length f.operations) (stated_in f) scen
 
 -- two valuations that agree with the bindings and differ in parameter k alone give different graphs
 pub record LeavesOpen (x : Stated) (k : ℕ) : Type 0 where
-  pub below : k < 6
+  pub below : k < PARAM_LIMIT
   pub valuation : ℕ
   pub numbered : valuation < 64
   pub agrees : AgreesWith x valuation

@@ -3,7 +3,8 @@ ghost use Rattle.std.specs.Prelude.{◌≡◌, ◌<◌, ◌≤◌, ◌==◌, ◌
 ghost use Rattle.cpog_defs.specs.Codes.{bit};
 ghost use Rattle.pg_normal.specs.Normals.{IsBinding};
 
-use cpog_base::{Name, Names};
+use cpog_base::bits::with_bit;
+use cpog_base::{Name, Names, PARAM_LIMIT};
 
 /// Bits of some parameters: which are fixed, and their values.
 #[derive(Clone, Copy, Debug, PartialEq, Eq)]
@@ -22,18 +23,27 @@ pub(crate) fn no_binding() -> Partial
     }
 }
 
+/// The mask with the bit of one more parameter.
+fn with_param(mask: u8, place: u8) -> u8
+    requires place { place < PARAM_LIMIT }
+    requires few { mask < 64 }
+    ensures few { result < 64 }
+    ensures bits { (k : ℕ) → bit result k ≡ (bit mask k || (place == k)) }
+{
+    with_bit(u64::from(mask), place, true) as u8
+}
+
 /// With the bit of one more parameter.
-fn with_param(binding: Partial, place: u8, one: bool) -> Partial
-    requires place { place < 6 }
+fn bind(binding: Partial, place: u8, one: bool) -> Partial
+    requires place { place < PARAM_LIMIT }
     requires few { (binding.fixed < 64) × (binding.values < 64) }
     ensures few { (result.fixed < 64) × (result.values < 64) }
     ensures fixed { (k : ℕ) → bit result.fixed k ≡ (bit binding.fixed k || (place == k)) }
     ensures values { (k : ℕ) → bit result.values k ≡ (bit binding.values k || ((place == k) && one)) }
 {
-    let weight = 1u8 << place;
-    let fixed = binding.fixed | weight;
+    let fixed = with_param(binding.fixed, place);
     if one {
-        let values = binding.values | weight;
+        let values = with_param(binding.values, place);
         return Partial { fixed, values };
     }
     Partial {
@@ -44,13 +54,13 @@ fn with_param(binding: Partial, place: u8, one: bool) -> Partial
 
 /// The parameters that bindings fix, and their bits.
 pub(crate) fn binding_of(params: &Names, bindings: &[(Name, bool)]) -> Partial
-    requires { length params.now ≤ 6 }
+    requires { length params.now ≤ PARAM_LIMIT }
     ensures { IsBinding params.now bindings.now result }
 {
     let mut binding = no_binding();
     'bindings: for (name, one) in bindings {
         if let Some(place) = params.find(name.as_str()) {
-            binding = with_param(binding, place as u8, *one);
+            binding = bind(binding, place as u8, *one);
         }
     }
     binding

@@ -100,7 +100,14 @@ pub fn write_forms(
     put_params(&mut out, &scope.params)?;
     'forms: for normal in normals.as_slice() {
         let statement = file.statement(normal.origin.statement);
-        put_line(alloc, &mut out, statement, &normal.form, names, &scope.params)?;
+        put_line(
+            alloc,
+            &mut out,
+            statement,
+            &normal.form,
+            names,
+            &scope.params,
+        )?;
     }
     Ok(out)
 }

@@ -10,20 +10,9 @@ use crate::{
     Kind, Known, NameFault, Normal, NormalForm, NormalList, Origin, Partial, Scope, form_of,
     with_graph,
 };
-use cpog_base::{Memory, Names};
+use cpog_base::Memory;
 use pg_text::{File, Statement};
 use std::alloc::Global;
-
-/// A copy of the names.
-fn copy_of(alloc: Global, names: &Names) -> Result<Names, Memory>
-    ensures { IfOk result (λ copy. copy ≡ names.now) }
-{
-    let mut copy = Names::new(alloc);
-    'names: for i in 0..names.len() {
-        copy.insert(names.get(i))?;
-    }
-    Ok(copy)
-}
 
 /// Puts a form last, with the parameters that its statement binds and where it comes from.
 fn put_normal(
@@ -52,7 +41,7 @@ pub fn forms_in(alloc: Global, file: &File, scope: &Scope) -> Result<NormalList,
     ensures { IfOk result (λ list. AreNormalsOf file.now list.normals) }
 {
     let count = file.operations().len();
-    let mut known = Known::new(alloc, copy_of(alloc, &scope.params)?);
+    let mut known = Known::new(alloc, scope.params.try_clone(alloc)?);
     let mut normals = Vec::new(alloc);
     'statements: for i in 0..file.len() {
         let line = file.line(i);

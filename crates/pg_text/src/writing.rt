@@ -74,7 +74,12 @@ fn put_expressions(
 
 /// Puts the expression last, its operations by their names.
 #[cycle(expression)]
-fn put_expression(out: &mut Vec<u8>, names: &Names, expr: &Expr, position: Position) -> Result<(), Memory>
+fn put_expression(
+    out: &mut Vec<u8>,
+    names: &Names,
+    expr: &Expr,
+    position: Position,
+) -> Result<(), Memory>
     ensures { OnOk result (out.new.items ≡ out.old.items ++ expr_text names.now position expr.now) }
 {
     match expr {

@@ -1,21 +1,17 @@
-use Rattle.std.specs.Prelude.{◌==◌}
-use Rattle.std.proofs.Common.{arith, ◌∙◌}
+use Rattle.std.specs.Prelude.{◌<◌, ◌^◌}
+use Rattle.std.proofs.Common.{ap, ◌∙◌, arith}
 use Rattle.cpog_defs.specs.Codes.{bit}
-use Rattle.pg_normal.proofs.ListingLemmas.{bit_set, few_set, and_one}
+use Rattle.pg_normal.proofs.ListingLemmas.{bit_more}
 use Rattle.pg_normal.proofs.binding.with_param.Goals as goal
 
-pub returns-then-one-clause-few : goal.returns-then-one-clause-few
-returns-then-one-clause-few c = (few_set c.args.binding.fixed c.args.place c.requires.few.0 c.requires.place, few_set c.args.binding.values c.args.place c.requires.few.1 c.requires.place)
+small : (c : goal.After-with_bit) → c.with_bit.result < 64
+small c = let few : c.from.result < 2 ^ 6 = omega (arith, c.from.ensures, c.requires.few) in let less = c.with_bit.ensures.below 6 c.requires.place few in omega (arith, less)
 
-pub returns-then-one-clause-fixed : goal.returns-then-one-clause-fixed
-returns-then-one-clause-fixed c k = bit_set c.args.binding.fixed c.args.place k (let h = c.requires.place in omega (arith, h))
-
-pub returns-then-one-clause-values : goal.returns-then-one-clause-values
-returns-then-one-clause-values c k = bit_set c.args.binding.values c.args.place k (let h = c.requires.place in omega (arith, h))
-    ∙ and_one (bit c.args.binding.values k) (c.args.place == k) c.args.one c.if-one.true
+pub overflow_cast-result : goal.overflow_cast-result
+overflow_cast-result c = let h = small c in omega (arith, h)
 
 pub returns-clause-few : goal.returns-clause-few
-returns-clause-few c = (few_set c.args.binding.fixed c.args.place c.requires.few.0 c.requires.place, c.requires.few.1)
+returns-clause-few c = small c
 
-pub returns-clause-fixed : goal.returns-clause-fixed
-returns-clause-fixed c k = bit_set c.args.binding.fixed c.args.place k (let h = c.requires.place in omega (arith, h))
+pub returns-clause-bits : goal.returns-clause-bits
+returns-clause-bits c k = bit_more c.args.mask c.with_bit.result c.args.place k c.with_bit.ensures.same (λ j ne. c.with_bit.ensures.others j ne ∙ ap (λ w. bit w j) c.from.ensures)

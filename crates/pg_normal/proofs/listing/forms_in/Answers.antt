@@ -12,7 +12,7 @@ use Rattle.pg_normal.proofs.listing.forms_in.Goals.{in-Params, in-Graph+in_ok-mo
 pub statements-init : goal.statements-init
 statements-init c = rw c.new-normals.ensures.items (record {
   at = at_first c.len-count.result c.args.file.now c.requires.in_order c.len-i-end.ensures.file c.new-known.result
-      (known_first c.args.file.now c.new-known.result c.in_ok-copy_of.field-0 c.args.scope.now c.new-known.ensures c.in_ok-copy_of.ensures c.requires.whole);
+      (known_first c.args.file.now c.new-known.result c.in_ok-try_clone.field-0 c.args.scope.now c.new-known.ensures c.in_ok-try_clone.ensures c.requires.whole);
   few = omega arith;
 })
 
