@@ -255,8 +255,8 @@ pub fn scope_of(alloc: Global, file: &File) -> Result<Scope, NameFault>
         graphs: Names::new(alloc),
         scenarios: Names::new(alloc),
     };
-    'statements: for i in 0..file.len() {
-        enter(alloc, file.line(i), &mut scope, file.statement(i))?;
+    'statements: for numbered in file.statements() {
+        enter(alloc, numbered.line, &mut scope, &numbered.statement)?;
     }
     Ok(scope)
 }
