@@ -1,3 +1,5 @@
 pub mod Causes
 pub mod Told
 pub mod Stores
+pub mod Room
+pub mod Laws

@@ -1,6 +1,6 @@
-ghost use Rattle.std.specs.Prelude.{◌≡◌, ◌≤◌, ◌<◌, None, length, is_err, IfOk, IfSome};
+ghost use Rattle.std.specs.Prelude.{◌≡◌, ◌≤◌, ◌<◌, false, None, length, take, is_err, IfOk, IfSome};
 ghost use Rattle.std.specs.Io.{ReadsAtMost};
-ghost use Rattle.std.specs.Io.KnownBytes.{ReadConsumes};
+ghost use Rattle.std.specs.Io.KnownBytes.{Appends, ReadConsumes};
 ghost use Rattle.cpog_outside.specs.Causes.{HasCause, count_after};
 
 use crate::{Failed, Sink, Source};
@@ -27,6 +27,9 @@ impl<R: Read> Source for StdSource<R> {
     ghost left = { λ s. R.remaining s.inner };
 
     ghost faults = { λ s. s.faults };
+
+    // A reader may fail at any call.
+    ghost steady = { λ _. false };
 
     fn read(&mut self, buffer: &mut [u8]) -> Result<usize, Failed>
         requires { 0 < length buffer.old }
@@ -64,6 +67,7 @@ impl<W: Write> StdSink<W> {
     /// Writes and flushes once, and says how many bytes were taken.
     fn write_once(&mut self, piece: &[u8]) -> Option<usize>
         ensures count { IfSome result (λ n. (0 < n) × (n ≤ length piece.now)) }
+        ensures bytes { IfSome result (λ n. Appends (W.contents self.old.inner) (W.contents self.new.inner) (take n piece.now)) }
         ensures same { self.new.faults ≡ self.old.faults }
     {
         let count = self.inner.write(piece).ok()?;
@@ -77,10 +81,15 @@ impl<W: Write> Sink for StdSink<W> {
 
     ghost faults = { λ s. s.faults };
 
+    // A writer may fail at any call.
+    ghost room = { λ _. None };
+
     fn write(&mut self, piece: &[u8]) -> Result<usize, Failed>
         requires { 0 < length piece.now }
         ensures some { IfOk result (λ n. 0 < n) }
         ensures bound { IfOk result (λ n. n ≤ length piece.now) }
+        // The writer took the front of the piece that is answered.
+        ensures written { IfOk result (λ n. Appends (W.contents self.old.inner) (W.contents self.new.inner) (take n piece.now)) }
         ensures cause { HasCause self.old.faults self.new.faults result }
         ensures counted { self.new.faults ≡ count_after self.old.faults (is_err result) }
     {

@@ -108,3 +108,35 @@ fn standard_ends_answer_each_error(rt: HostRuntime) -> Result<(), Fail> {
     }
     Ok(())
 }
+
+// A writer that holds what it is given until it is flushed, and does one after the other alone.
+#[derive(Drop)]
+struct Holder {
+    is_holding: bool,
+}
+
+impl Write for Holder {
+    fn write(&mut self, buf: &[u8]) -> io::Result<usize> {
+        if self.is_holding {
+            return Err(io::Error::from(io::ErrorKind::BrokenPipe));
+        }
+        self.is_holding = true;
+        Ok(buf.len())
+    }
+
+    fn flush(&mut self) -> io::Result<()> {
+        if !self.is_holding {
+            return Err(io::Error::from(io::ErrorKind::BrokenPipe));
+        }
+        self.is_holding = false;
+        Ok(())
+    }
+}
+
+#[test]
+fn each_write_is_flushed_behind_it(rt: HostRuntime) -> Result<(), Fail> {
+    let mut sink = StdSink::new(Holder { is_holding: false });
+    assert_eq!(rt; sink.write(b"ab"), Ok(2));
+    assert_eq!(rt; sink.write(b"c"), Ok(1));
+    Ok(())
+}

@@ -1,5 +1,6 @@
-use Rattle.std.proofs.Common.{◌++◌, take, arith}
-use Rattle.cpog_outside.proofs.ToldLemmas.{Appends-trans, split_more}
+use Rattle.std.proofs.Common.{◌++◌, ◌∙◌, take, length, sym, subst, arith}
+use Rattle.cpog_outside.specs.Room.{HasRoom}
+use Rattle.cpog_outside.proofs.ToldLemmas.{Appends-trans, split_more, length-rest}
 use Rattle.cpog_outside.proofs.writing.write_all.Goals as goal
 
 pub pieces-preserved : goal.pieces-preserved
@@ -10,4 +11,6 @@ pieces-preserved g c = record {
     Appends-trans _ _ _ _ _ c.pieces.invariant.taken.2 c.in-Ok.ensures.bytes,
   );
   later = omega (arith, c.pieces.invariant.later, c.in-Ok.ensures.cause.later);
+  room = λ h. subst (HasRoom _) (sym (length-rest c.pieces.rest.now c.in-Ok.count)) ((c.in-Ok.ensures.quiet (c.pieces.invariant.room h)).left (length c.pieces.rest.now) (c.pieces.invariant.room h));
+  quiet = λ h. (c.in-Ok.ensures.quiet (c.pieces.invariant.room h)).same ∙ c.pieces.invariant.quiet h;
 }
