@@ -1,7 +1,8 @@
 -- References of classes agree with the columns that belong to these.
-use Rattle.std.proofs.Common.{◌≡◌, ◌≢◌, ℕ, Bool, true, false, not, IsTrue, List, [], ◌∷◌, zero, suc, length, map, get_or, subst, refl, sym, ap, ◌∙◌, inl, inr, arith}
+use Rattle.std.proofs.Common.{◌≡◌, ◌≢◌, ◌<◌, ℕ, Bool, true, false, not, IsTrue, List, [], ◌∷◌, zero, suc, length, map, get_or, subst, refl, sym, ap, ◌∙◌, inl, inr, arith}
 use Rattle.std.specs.List.{list_any, All}
 use Rattle.std.proofs.lemmas.List.{get_or_past}
+use Rattle.std.proofs.lemmas.Option.{slice_get-get_or}
 use Rattle.std.proofs.lemmas.List.Elements.{All-get_or, All-contains}
 use Rattle.std.proofs.lemmas.Bool.{both_ways, or_parts, cases_order, cases_lt}
 use Rattle.cpog_defs.specs.declared.types.Bit3.{Bit3}
@@ -16,9 +17,10 @@ use Rattle.cpog_defs.specs.Encodings.{Encoding, RefAgrees}
 use Rattle.cpog_base.specs.Column.{is_one, is_zero, opposite, Serves, Opposes}
 use Rattle.cpog_merge.specs.declared.class_list.Belongs.{Belongs}
 use Rattle.cpog_merge.specs.declared.class_list.Belongs.TheVariants.{Const, Class}
-use Rattle.cpog_merge.specs.Table.{Table, column_at, AgreesWithTable}
+use Rattle.cpog_merge.specs.Columns.{Columns, column_at, AgreesWith}
 use Rattle.cpog_merge.specs.Classes.{ComesBefore, IsClass, Classes, ServesAs, IsServedBy, class_column, belongs_at, BelongsTo, AreClassesOf}
-use Rattle.cpog_merge.specs.ByClass.{signed_ref, class_ref, ref_by, AgreeWithClasses, IsGraphByClass}
+use Rattle.cpog_merge.specs.ByClass.{signed_ref, class_ref, ref_by, IsGraphByClass}
+use Rattle.gate_core.specs.Serving.{ReferencesServe}
 use Rattle.cpog_merge.proofs.ListLemmas.{same_ordered}
 use Rattle.cpog_merge.proofs.OpenLemmas.{one_way}
 
@@ -73,13 +75,19 @@ no_zero_agrees Zero h = absurd (both_ways _ h refl)
 
 -- ---- graphs
 
-by_belonging : (gates : GateList) (codes : List ℕ) (list : Classes) (refs : List Ref) (column : List Bit3) (x : Belongs) → AgreeWithClasses gates codes list refs → BelongsTo list column x → RefAgrees gates codes column (ref_by refs x)
+-- on each code the reference of a class has the values that its column asks for
+class_agrees : (gates : GateList) (codes : List ℕ) (list : Classes) (refs : List Ref) (c : ℕ) → ReferencesServe list.columns codes gates refs → c < length list.columns
+    → RefAgrees gates codes (class_column list c) (class_ref refs c)
+class_agrees gates codes list refs c serve l =
+    serve.agrees c (class_column list c) (class_ref refs c) (slice_get-get_or list.columns c [] l) (slice_get-get_or refs c (FixedRef false) (omega (arith, l, serve.one_each)))
+
+by_belonging : (gates : GateList) (codes : List ℕ) (list : Classes) (refs : List Ref) (column : List Bit3) (x : Belongs) → ReferencesServe list.columns codes gates refs → BelongsTo list column x → RefAgrees gates codes column (ref_by refs x)
 by_belonging gates codes list refs column (Const false) ok h = λ s word at. no_one_agrees (entry_at column s) (none_one column s h)
 by_belonging gates codes list refs column (Const true) ok h = λ s word at. no_zero_agrees (entry_at column s) (none_zero column s h.1)
 by_belonging gates codes list refs column (Class c negated) ok h =
-    served_agree_lem gates codes (class_column list c) column negated (class_ref refs c) h.2.serves (ok c h.2.in_range)
+    served_agree_lem gates codes (class_column list c) column negated (class_ref refs c) h.2.serves (class_agrees gates codes list refs c ok h.2.in_range)
 
-pub graph_by_class_lem : (e : Encoding) (t : Table) (list : Classes) (refs : List Ref) → AreClassesOf t list → length e.codes ≡ t.scenarios → AgreeWithClasses e.gates e.codes list refs → IsGraphByClass t.count list refs e.graph → AgreesWithTable e t
+pub graph_by_class_lem : (e : Encoding) (t : Columns) (list : Classes) (refs : List Ref) → AreClassesOf t list → length e.codes ≡ t.scenarios → ReferencesServe list.columns e.codes e.gates refs → IsGraphByClass t.count list refs e.graph → AgreesWith e t
 graph_by_class_lem e t list refs are size ok graph = record {
   one_code_each = size;
   agrees = λ p q. subst (λ r. RefAgrees e.gates e.codes (column_at t p) r) (sym (graph p q)) (by_belonging e.gates e.codes list refs (column_at t p) (belongs_at list p) ok (are.belongs p q));
@@ -163,7 +171,7 @@ moved a b column (Class c negated) e h = (
   },
 )
 
-pub classes_are_one_lem : (t : Table) (a b : Classes) → AreClassesOf t a → AreClassesOf t b → (a.places ≡ b.places) × (a.columns ≡ b.columns) × ((p : Place) → IsPlace t.count p → belongs_at a p ≡ belongs_at b p)
+pub classes_are_one_lem : (t : Columns) (a b : Classes) → AreClassesOf t a → AreClassesOf t b → (a.places ≡ b.places) × (a.columns ≡ b.columns) × ((p : Place) → IsPlace t.count p → belongs_at a p ≡ belongs_at b p)
 classes_are_one_lem t a b x y =
     let places : a.places ≡ b.places = same_ordered ComesBefore one_way a.places b.places x.places.in_order y.places.in_order
     (λ p h. y.places.all p (All-contains (IsClass t) a.places p x.places.each h)) (λ p h. x.places.all p (All-contains (IsClass t) b.places p y.places.each h)) in

@@ -15,8 +15,8 @@ use Rattle.cpog_defs.specs.declared.types.Place.TheVariants.{Op, Arc}
 use Rattle.cpog_defs.specs.Orders.{each_below}
 use Rattle.cpog_defs.specs.Graphs.{IsPlace}
 use Rattle.cpog_merge.specs.declared.class_list.Belongs.TheVariants.{Class}
-use Rattle.cpog_merge.specs.Table.{Table, IsTable, column_at}
-use Rattle.cpog_merge.specs.Classes.{ComesBefore, ServesAs, IsServedBy, IsOpen, IsClass, Classes, class_column, BelongsTo, AreClassPlaces}
+use Rattle.cpog_merge.specs.Columns.{Columns, AreColumns, column_at}
+use Rattle.cpog_merge.specs.Classes.{ComesBefore, ServesAs, IsServedBy, IsOpenPlace, IsClass, Classes, class_column, BelongsTo, AreClassPlaces}
 use Rattle.cpog_merge.specs.Opens.{open_places, serves_as, serves, is_class_at, chosen, first_class, belonging, HasClass, HaveClasses}
 use Rattle.cpog_merge.proofs.ListLemmas.{contains_head, contains_nil, contains_one, in_each_below, from_each_below, pairs_nil, pairs_one, pairs_each_below}
 use Rattle.cpog_merge.proofs.ServingLemmas.{serves_decides, served_decides}
@@ -24,7 +24,7 @@ use Rattle.cpog_merge.proofs.ChosenLemmas.{at, IsClassIn, class_from_test, test_
 use Rattle.cpog_merge.proofs.OpenLemmas.{one_way, listed_open, open_listed, open_in_order, few_open}
 
 -- a column has an entry for each scenario
-pub column_size : (t : Table) → IsTable t → (p : Place) → IsPlace t.count p → length (column_at t p) ≡ t.scenarios
+pub column_size : (t : Columns) → AreColumns t → (p : Place) → IsPlace t.count p → length (column_at t p) ≡ t.scenarios
 column_size t is (Op v) l = All-get_or (λ c. length c ≡ t.scenarios) t.ops v.0 [] (omega (arith, is.ops_each)) is.op_entries
 column_size t is (Arc u v) l =
     let first : u.0 < t.count = l.0 in
@@ -33,7 +33,7 @@ column_size t is (Arc u v) l =
     let more : suc v.0 * t.count ≡ v.0 * t.count + t.count = grind arith in
     All-get_or (λ c. length c ≡ t.scenarios) t.arcs (v.0 * t.count + u.0) [] (omega (arith, is.arcs_each)) is.arc_entries
 
-module _ (t : Table) (is : IsTable t) where
+module _ (t : Columns) (is : AreColumns t) where
   abbrev pub open_columns : List (List Bit3)
   open_columns = map (column_at t) (open_places t)
 
@@ -47,7 +47,7 @@ module _ (t : Table) (is : IsTable t) where
   column_there : (i : ℕ) (d : Place) → i < length (open_places t) → at open_columns i ≡ column_at t (get_or (open_places t) i d)
   column_there i d l = get_or-map (column_at t) (open_places t) i d [] l
 
-  open_there : (i : ℕ) (d : Place) → i < length (open_places t) → IsOpen t (get_or (open_places t) i d)
+  open_there : (i : ℕ) (d : Place) → i < length (open_places t) → IsOpenPlace t (get_or (open_places t) i d)
   open_there i d l = listed_open t (get_or (open_places t) i d) (Contains-get_or (open_places t) i d l)
 
   pub short_columns : All (λ c. length c ≤ 64) open_columns
@@ -216,7 +216,7 @@ module _ (t : Table) (is : IsTable t) where
   have_classes places are = record {
     each = λ p l asked.
         let both = and_parts (list_any is_one (column_at t p)) (list_any is_zero (column_at t p)) asked in
-        let r = open_listed t p (record { place = l; some_one = both.0; some_zero = both.1 }) in
+        let r = open_listed t p (record { place = l; column = record { entries = refl; some_one = both.0; some_zero = both.1 } }) in
         let found = has_class open_columns 64 short_columns r.0 (omega (arith, size, r.1)) in
         let m : found.class < length (open_places t) = omega (arith, found.in_range, size) in
         let class : Place = get_or (open_places t) found.class p in

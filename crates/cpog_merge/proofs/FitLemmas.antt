@@ -17,7 +17,7 @@ use Rattle.cpog_defs.specs.Graphs.{ConditionalGraph, op_ref, arc_ref, ref_of, ke
 use Rattle.cpog_defs.specs.Encodings.{Encoding, IsEncoding, RefAgrees, AgreesWithColumns, Fits}
 use Rattle.cpog_defs.proofs.WalkLemmas.{replaced, walked, covered_walk}
 use Rattle.order_reduce.proofs.CoveredLemmas.{covered_from, covered_tells}
-use Rattle.cpog_merge.specs.Table.{Table, count_of, AreColumnsOf, AgreesWithTable}
+use Rattle.cpog_merge.specs.Columns.{Columns, count_of, AreColumnsOf, AgreesWith}
 
 -- ---- an entry, by the tests that it is made of
 
@@ -154,11 +154,11 @@ agree_fits e count orders are is_encoding agrees = record {
 pub fits_is_agreeing_lem : (e : Encoding) (count : ℕ) (orders : List Order) → All (IsOrderOf count) orders → IsEncoding count e → Fits e orders ↔ AgreesWithColumns e count orders
 fits_is_agreeing_lem e count orders are is_encoding = (fits_agree e count orders are, agree_fits e count orders are is_encoding)
 
--- ---- the columns in a table
+-- ---- all columns together
 
--- an encoding agrees with the columns exactly where it agrees with a table of them
-columns_in_table : (orders : List Order) (t : Table) → AreColumnsOf orders t → (e : Encoding) → AgreesWithColumns e (count_of orders) orders ↔ AgreesWithTable e t
-columns_in_table orders t are e = (
+-- an encoding agrees with each column exactly where it agrees with all together
+columns_together : (orders : List Order) (t : Columns) → AreColumnsOf orders t → (e : Encoding) → AgreesWithColumns e (count_of orders) orders ↔ AgreesWith e t
+columns_together orders t are e = (
   λ h. record {
     one_code_each = h.one_code_each ∙ sym are.scenarios;
     agrees = λ p q. let place : IsPlace (count_of orders) p = subst (λ n. IsPlace n p) are.count q in
@@ -170,9 +170,9 @@ columns_in_table orders t are e = (
   },
 )
 
--- an encoding fits exactly where it agrees with the table
-pub table_fits : (orders : List Order) (t : Table) → All (IsOrderOf (count_of orders)) orders → AreColumnsOf orders t → (e : Encoding) → IsEncoding (count_of orders) e → Fits e orders ↔ AgreesWithTable e t
-table_fits orders t alike are e is =
+-- an encoding fits exactly where it agrees with the columns
+pub columns_fit : (orders : List Order) (t : Columns) → All (IsOrderOf (count_of orders)) orders → AreColumnsOf orders t → (e : Encoding) → IsEncoding (count_of orders) e → Fits e orders ↔ AgreesWith e t
+columns_fit orders t alike are e is =
     let fit = fits_is_agreeing_lem e (count_of orders) orders alike is in
-    let same = columns_in_table orders t are e in
+    let same = columns_together orders t are e in
     (λ h. same.0 (fit.0 h), λ h. fit.1 (same.1 h))

@@ -1,8 +1,9 @@
 pub mod FillLemmas
 pub mod FitLemmas
 pub mod ScenarioLemmas
-pub mod TableLemmas
+pub mod ColumnsLemmas
 pub mod AgreeLemmas
+pub mod GraphLemmas
 pub mod ListLemmas
 pub mod SmallerLemmas
 pub mod ServingLemmas
@@ -10,4 +11,5 @@ pub mod ChosenLemmas
 pub mod OpenLemmas
 pub mod ClassLemmas
 pub mod ListedLemmas
-pub mod AloneLemmas
+pub mod ConverseLemmas
+pub mod SameLemmas

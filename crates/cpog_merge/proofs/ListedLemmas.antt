@@ -10,24 +10,25 @@ use Rattle.cpog_defs.specs.declared.types.Place.TheVariants.{Op, Arc}
 use Rattle.cpog_defs.specs.Graphs.{IsPlace}
 use Rattle.cpog_merge.specs.declared.class_list.Belongs.{Belongs}
 use Rattle.cpog_merge.specs.declared.class_list.Belongs.TheVariants.{Const}
-use Rattle.cpog_merge.specs.Table.{Table, IsTable, column_at}
+use Rattle.cpog_merge.specs.Columns.{Columns, AreColumns, column_at}
 use Rattle.gate_core.specs.Columns.{IsOpenColumn}
 use Rattle.cpog_merge.specs.Classes.{IsClass, Classes, belongs_at, BelongsTo, AreClassPlaces, AreClassesOf, IsClassList}
+use Rattle.cpog_merge.specs.Laws.{ClassesAreOpen}
 use Rattle.cpog_merge.specs.Opens.{belonging, op_belongings, arc_belongings_from, arc_belongings}
-use Rattle.cpog_merge.proofs.TableLemmas.{length-blocks, get-blocks, single}
+use Rattle.cpog_merge.proofs.ColumnsLemmas.{length-blocks, get-blocks, single}
 use Rattle.cpog_merge.proofs.ClassLemmas.{column_size, have_classes, belongs_as_said}
 
-pub all_places : (t : Table) (places : List Place) → AreClassPlaces t places → All (IsPlace t.count) places
+pub all_places : (t : Columns) (places : List Place) → AreClassPlaces t places → All (IsPlace t.count) places
 all_places t places are = λ k d l. (All-get_or (IsClass t) places k d l are.each).is_open.place
 
--- each class has an entry for each scenario, among them a 1 and a 0
-pub open_class_columns : (t : Table) → IsTable t → (list : Classes) → AreClassesOf t list → All (IsOpenColumn t.scenarios) list.columns
-open_class_columns t is list are = subst (All (IsOpenColumn t.scenarios)) (sym are.columns) (All-map (IsOpenColumn t.scenarios) (column_at t) list.places
+-- the classes are open columns
+pub open_class_columns : ClassesAreOpen
+open_class_columns t list is are = subst (All (IsOpenColumn t.scenarios)) (sym are.columns) (All-map (IsOpenColumn t.scenarios) (column_at t) list.places
     (λ k d l. let o = (All-get_or (IsClass t) list.places k d l are.places.each).is_open in
-    record { entries = column_size t is (get_or list.places k d) o.place; some_one = o.some_one; some_zero = o.some_zero }))
+    subst (λ n. IsOpenColumn n (column_at t (get_or list.places k d))) (column_size t is (get_or list.places k d) o.place) o.column))
 
 -- the list with these classes
-abbrev pub list_of : Table → List Place → Classes
+abbrev pub list_of : Columns → List Place → Classes
 list_of t places = record {
   count = t.count;
   places = places;
@@ -36,7 +37,7 @@ list_of t places = record {
   arcs = arc_belongings t (map (column_at t) places) t.count t.count;
 }
 
-module _ (t : Table) (is : IsTable t) (places : List Place) (are : AreClassPlaces t places) where
+module _ (t : Columns) (is : AreColumns t) (places : List Place) (are : AreClassPlaces t places) where
   columns : List (List Bit3)
   columns = map (column_at t) places
 

@@ -8,8 +8,8 @@ use Rattle.cpog_defs.specs.declared.types.Place.{Place}
 use Rattle.cpog_defs.specs.declared.types.Place.TheVariants.{Op, Arc}
 use Rattle.cpog_defs.specs.Orders.{each_below}
 use Rattle.cpog_defs.specs.Graphs.{IsPlace}
-use Rattle.cpog_merge.specs.Table.{Table, column_at}
-use Rattle.cpog_merge.specs.Classes.{ComesBefore, IsOpen}
+use Rattle.cpog_merge.specs.Columns.{Columns, column_at}
+use Rattle.cpog_merge.specs.Classes.{ComesBefore, IsOpenPlace}
 use Rattle.cpog_merge.specs.Opens.{is_open, open_at, open_ops, open_arcs_from, open_places}
 use Rattle.cpog_merge.proofs.ListLemmas.{contains_head, contains_nil, contains_one, in_each_below, from_each_below, pairs_nil, pairs_one, pairs_append, pairs_each_below}
 
@@ -24,7 +24,7 @@ one_way (Arc u v) (Arc x y) (inl a) (inr b) = absurd (omega (arith, b.0))
 one_way (Arc u v) (Arc x y) (inr a) (inl b) = absurd (omega (arith, a.0))
 one_way (Arc u v) (Arc x y) (inr a) (inr b) = absurd (omega (arith, a.1, b.1))
 
-module _ (t : Table) where
+module _ (t : Columns) where
   abbrev op_list : ℕ → List Place
   op_list v = open_at t (Op (record { 0 = v }))
 
@@ -51,28 +51,28 @@ module _ (t : Table) where
       go true e h = absurd (contains_nil q h)
       go false e h = let r = only (Arc (record { 0 = u }) (record { 0 = v })) q h in (eqb-false u v e, r.0, r.1)
 
-  opened : (p : Place) → IsPlace t.count p → IsTrue (is_open (column_at t p)) → IsOpen t p
-  opened p l e = let both = and_parts (list_any is_one (column_at t p)) (list_any is_zero (column_at t p)) e in record { place = l; some_one = both.0; some_zero = both.1 }
+  opened : (p : Place) → IsPlace t.count p → IsTrue (is_open (column_at t p)) → IsOpenPlace t p
+  opened p l e = let both = and_parts (list_any is_one (column_at t p)) (list_any is_zero (column_at t p)) e in record { place = l; column = record { entries = refl; some_one = both.0; some_zero = both.1 } }
 
-  pub open_test : (p : Place) → IsOpen t p → IsTrue (is_open (column_at t p))
-  open_test p o = and_from (list_any is_one (column_at t p)) (list_any is_zero (column_at t p)) o.some_one o.some_zero
+  pub open_test : (p : Place) → IsOpenPlace t p → IsTrue (is_open (column_at t p))
+  open_test p o = and_from (list_any is_one (column_at t p)) (list_any is_zero (column_at t p)) o.column.some_one o.column.some_zero
 
   -- ---- exactly the open places
 
-  pub listed_open : (q : Place) → Contains (open_places t) q → IsOpen t q
+  pub listed_open : (q : Place) → Contains (open_places t) q → IsOpenPlace t q
   listed_open q h = elim (Contains-append_cases (open_ops t t.count) (each_below (open_arcs_from t t.count) t.count) q h) [
     | inl ops ↦
         let a = from_each_below op_list t.count q ops in
         let r = only (Op (record { 0 = a.0 })) q a.2 in
-        subst (IsOpen t) r.1 (opened (Op (record { 0 = a.0 })) a.1 r.0)
+        subst (IsOpenPlace t) r.1 (opened (Op (record { 0 = a.0 })) a.1 r.0)
     | inr arcs ↦
         let a = from_each_below (open_arcs_from t t.count) t.count q arcs in
         let b = from_each_below (arc_list a.0) t.count q a.2 in
         let r = only_arc a.0 b.0 q b.2 in
-        subst (IsOpen t) r.2 (opened (Arc (record { 0 = a.0 }) (record { 0 = b.0 })) (a.1, b.1, r.0) r.1)
+        subst (IsOpenPlace t) r.2 (opened (Arc (record { 0 = a.0 }) (record { 0 = b.0 })) (a.1, b.1, r.0) r.1)
   ]
 
-  pub open_listed : (q : Place) → IsOpen t q → Contains (open_places t) q
+  pub open_listed : (q : Place) → IsOpenPlace t q → Contains (open_places t) q
   open_listed (Op v) o =
       Contains-append_left (open_ops t t.count) (each_below (open_arcs_from t t.count) t.count) (Op v)
       (in_each_below op_list t.count v.0 (Op v) o.place (there (Op v) (open_test (Op v) o)))

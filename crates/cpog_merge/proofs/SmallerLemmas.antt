@@ -18,7 +18,7 @@ use Rattle.cpog_defs.specs.Orders.{Set, Order, IsOrder, IsOrderOf, has, is_befor
 use Rattle.cpog_defs.specs.Graphs.{IsPlace}
 use Rattle.cpog_defs.specs.Columns.{entry, column}
 use Rattle.order_reduce.proofs.PairCount.{few_covers}
-use Rattle.cpog_merge.specs.Table.{Table, column_at, count_of, AreColumnsOf}
+use Rattle.cpog_merge.specs.Columns.{Columns, column_at, count_of, AreColumnsOf}
 use Rattle.cpog_merge.specs.Classes.{ComesBefore, IsClass, Classes, AreClassesOf}
 use Rattle.gate_core.specs.Columns.{smaller_set}
 use Rattle.cpog_merge.proofs.ListLemmas.{contains_head, in_each_below, sum_of_some, sum_below, sum_by_bound, sum_by_swap}
@@ -169,7 +169,7 @@ joins (c ∷ cs) h =
 
 -- ---- all classes
 
-module _ (orders : List Order) (t : Table) (list : Classes) (alike : All (IsOrderOf (count_of orders)) orders) (few : count_of orders ≤ 64)
+module _ (orders : List Order) (t : Columns) (list : Classes) (alike : All (IsOrderOf (count_of orders)) orders) (few : count_of orders ≤ 64)
     (are : AreColumnsOf orders t) (classes : AreClassesOf t list) where
   n : ℕ
   n = count_of orders

@@ -1,14 +1,14 @@
 -- Graphs whose conditions are those of the classes.
-use Rattle.std.specs.Prelude.{◌≡◌, ℕ, ◌<◌, Bool, true, false, not, List, length, slice_index_or}
+use Rattle.std.specs.Prelude.{◌≡◌, ℕ, ◌<◌, ◌==◌, Bool, true, false, not, if◌then◌else◌, List, [], ◌∷◌, length, slice_index_or}
 use Rattle.cpog_defs.specs.declared.types.Ref.{Ref}
 use Rattle.cpog_defs.specs.declared.types.Ref.TheVariants.{Const as FixedRef, Signal}
 use Rattle.cpog_defs.specs.declared.types.Place.{Place}
-use Rattle.cpog_defs.specs.Gates.{GateList}
+use Rattle.cpog_defs.specs.declared.types.Place.TheVariants.{Op, Arc}
+use Rattle.cpog_defs.specs.Orders.{each_below}
 use Rattle.cpog_defs.specs.Graphs.{ConditionalGraph, IsPlace, ref_of}
-use Rattle.cpog_defs.specs.Encodings.{RefAgrees}
 use Rattle.cpog_merge.specs.declared.class_list.Belongs.{Belongs}
 use Rattle.cpog_merge.specs.declared.class_list.Belongs.TheVariants.{Const, Class}
-use Rattle.cpog_merge.specs.Classes.{Classes, class_column, belongs_at}
+use Rattle.cpog_merge.specs.Classes.{Classes, belongs_at}
 
 -- a reference, or its complement where negated
 abbrev pub signed_ref : Bool → Ref → Ref
@@ -25,10 +25,31 @@ abbrev pub ref_by : List Ref → Belongs → Ref
 ref_by refs (Const b) = FixedRef b
 ref_by refs (Class number negated) = signed_ref negated (class_ref refs number)
 
--- on each code each class's reference has the values that its column asks for
-abbrev pub AgreeWithClasses : GateList → List ℕ → Classes → List Ref → Type 0
-AgreeWithClasses gates codes list refs = (c : ℕ) → c < length list.columns → RefAgrees gates codes (class_column list c) (class_ref refs c)
+-- each class to which a column belongs has a reference in the list
+abbrev pub HaveReferences : Classes → List Ref → Type 0
+HaveReferences list refs = (p : Place) (number : ℕ) (negated : Bool) → IsPlace list.count p → belongs_at list p ≡ Class number negated → number < length refs
+
+-- the condition of a place: the reference that its column takes
+abbrev pub condition_at : Classes → List Ref → Place → Ref
+condition_at list refs p = ref_by refs (belongs_at list p)
 
 -- each condition is the one that its column takes
 abbrev pub IsGraphByClass : ℕ → Classes → List Ref → ConditionalGraph → Type 0
-IsGraphByClass count list refs graph = (p : Place) → IsPlace count p → ref_of graph p ≡ ref_by refs (belongs_at list p)
+IsGraphByClass count list refs graph = (p : Place) → IsPlace count p → ref_of graph p ≡ condition_at list refs p
+
+-- the conditions of the pairs from u, by their second, and the constant 0 from u to itself
+abbrev pub arc_conditions : Classes → List Ref → ℕ → List Ref
+arc_conditions list refs u =
+    each_below (λ v. (if u == v then FixedRef false else condition_at list refs (Arc (record { 0 = u }) (record { 0 = v }))) ∷ []) list.count
+
+-- the graph in which each condition is the one that its column takes
+abbrev pub graph_by_class : Classes → List Ref → ConditionalGraph
+graph_by_class list refs = record {
+  ops = each_below (λ v. condition_at list refs (Op (record { 0 = v })) ∷ []) list.count;
+  arcs = each_below (λ u. arc_conditions list refs u ∷ []) list.count;
+}
+
+-- a reference to a signal, and no constant
+abbrev pub IsSignal : Ref → Type 0
+IsSignal (FixedRef b) = ⊥
+IsSignal (Signal n negated) = Unit {0}

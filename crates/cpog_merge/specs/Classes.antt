@@ -12,7 +12,8 @@ use Rattle.cpog_defs.specs.declared.types.Place.TheVariants.{Op, Arc}
 use Rattle.cpog_defs.specs.Graphs.{IsPlace}
 use Rattle.cpog_merge.specs.declared.class_list.Belongs.{Belongs}
 use Rattle.cpog_merge.specs.declared.class_list.Belongs.TheVariants.{Const, Class}
-use Rattle.cpog_merge.specs.Table.{Table, column_at}
+use Rattle.gate_core.specs.Columns.{IsOpenColumn}
+use Rattle.cpog_merge.specs.Columns.{Columns, column_at}
 
 -- column order
 abbrev pub ComesBefore : Place → Place → Type 0
@@ -30,17 +31,16 @@ ServesAs true b a = Opposes b a
 abbrev pub IsServedBy : List Bit3 → List Bit3 → Type 0
 IsServedBy a b = Serves b a ⊎ Opposes b a
 
--- an operation or a pair whose column asks for a 1 somewhere, and for a 0 elsewhere
-pub record IsOpen (t : Table) (p : Place) : Type 0 where
+-- an operation or a pair whose column is open
+pub record IsOpenPlace (t : Columns) (p : Place) : Type 0 where
   pub place : IsPlace t.count p
-  pub some_one : IsTrue (list_any is_one (column_at t p))
-  pub some_zero : IsTrue (list_any is_zero (column_at t p))
+  pub column : IsOpenColumn (length (column_at t p)) (column_at t p)
 
 -- an open place that no earlier open one serves, and that serves each later open one that serves it
-pub record IsClass (t : Table) (p : Place) : Type 0 where
-  pub is_open : IsOpen t p
-  pub none_earlier : (q : Place) → IsOpen t q → ComesBefore q p → IsServedBy (column_at t p) (column_at t q) → ⊥
-  pub serves_back : (q : Place) → IsOpen t q → ComesBefore p q → IsServedBy (column_at t p) (column_at t q) → IsServedBy (column_at t q) (column_at t p)
+pub record IsClass (t : Columns) (p : Place) : Type 0 where
+  pub is_open : IsOpenPlace t p
+  pub none_earlier : (q : Place) → IsOpenPlace t q → ComesBefore q p → IsServedBy (column_at t p) (column_at t q) → ⊥
+  pub serves_back : (q : Place) → IsOpenPlace t q → ComesBefore p q → IsServedBy (column_at t p) (column_at t q) → IsServedBy (column_at t q) (column_at t p)
 
 -- the places and columns of the classes, and what each operation's and each pair's column belongs to
 pub record Classes : Type 0 where
@@ -72,14 +72,14 @@ BelongsTo list column (Const true) = IsTrue (list_any is_one column) × (list_an
 BelongsTo list column (Class number negated) =
     IsTrue (list_any is_one column) × IsTrue (list_any is_zero column) × BelongsToClass list column number negated
 
--- exactly the classes of a table, in column order
-pub record AreClassPlaces (t : Table) (places : List Place) : Type 0 where
+-- exactly the classes of some columns, in column order
+pub record AreClassPlaces (t : Columns) (places : List Place) : Type 0 where
   pub each : All (IsClass t) places
   pub all : (p : Place) → IsClass t p → Contains places p
   pub in_order : AllPairs ComesBefore places
 
--- the classes of a table with their columns, and what each of its columns belongs to
-pub record AreClassesOf (t : Table) (list : Classes) : Type 0 where
+-- the classes of some columns, and what each column belongs to
+pub record AreClassesOf (t : Columns) (list : Classes) : Type 0 where
   pub count : list.count ≡ t.count
   pub places : AreClassPlaces t list.places
   pub columns : list.columns ≡ map (column_at t) list.places

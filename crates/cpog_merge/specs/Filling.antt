@@ -1,16 +1,9 @@
--- The lists that a table is filled from.
-use Rattle.std.specs.Prelude.{◌≡◌, ℕ, List, [], ◌∷◌}
-use Rattle.std.specs.FinSet as set
+-- The lists that columns are filled from.
+use Rattle.std.specs.Prelude.{ℕ, List, [], ◌∷◌}
 use Rattle.cpog_defs.specs.declared.types.Bit3.{Bit3}
 use Rattle.cpog_defs.specs.declared.types.Place.TheVariants.{Op, Arc}
-use Rattle.cpog_defs.specs.Orders.{Set, Order, is_covered, each_below}
+use Rattle.cpog_defs.specs.Orders.{Order, each_below}
 use Rattle.cpog_defs.specs.Columns.{column}
-
--- for each scenario the set of the operations that v covers there
-abbrev pub AreCoveredBy : ℕ → List Order → List Set → Type 0
-AreCoveredBy v [] [] = Unit {0}
-AreCoveredBy v (o ∷ orders) (s ∷ sets) = ((u : ℕ) → set.contains s u ≡ is_covered o u v) × AreCoveredBy v orders sets
-AreCoveredBy v orders sets = ⊥
 
 -- the columns of the operations below n
 abbrev pub op_columns_of : List Order → ℕ → List (List Bit3)

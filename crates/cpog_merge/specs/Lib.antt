@@ -1,6 +1,6 @@
 pub mod Filling
 pub mod Laws
-pub mod Table
+pub mod Columns
 pub mod Classes
 pub mod ByClass
 pub mod Opens

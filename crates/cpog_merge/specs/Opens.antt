@@ -11,26 +11,26 @@ use Rattle.cpog_defs.specs.Graphs.{IsPlace}
 use Rattle.cpog_defs.specs.Entries.{entry_at}
 use Rattle.cpog_merge.specs.declared.class_list.Belongs.{Belongs}
 use Rattle.cpog_merge.specs.declared.class_list.Belongs.TheVariants.{Const, Class}
-use Rattle.cpog_merge.specs.Table.{Table, column_at}
+use Rattle.cpog_merge.specs.Columns.{Columns, column_at}
 
 -- whether a column asks for a 1 and for a 0
 abbrev pub is_open : List Bit3 → Bool
 is_open column = list_any is_one column && list_any is_zero column
 
 -- the place, where it is open
-abbrev pub open_at : Table → Place → List Place
+abbrev pub open_at : Columns → Place → List Place
 open_at t p = if is_open (column_at t p) then p ∷ [] else []
 
 -- the open operations below n
-abbrev pub open_ops : Table → ℕ → List Place
+abbrev pub open_ops : Columns → ℕ → List Place
 open_ops t n = each_below (λ v. open_at t (Op (record { 0 = v }))) n
 
 -- the open pairs from u, whose second is below n
-abbrev pub open_arcs_from : Table → ℕ → ℕ → List Place
+abbrev pub open_arcs_from : Columns → ℕ → ℕ → List Place
 open_arcs_from t n u = each_below (λ v. if u == v then [] else open_at t (Arc (record { 0 = u }) (record { 0 = v }))) n
 
 -- the open places, in column order
-abbrev pub open_places : Table → List Place
+abbrev pub open_places : Columns → List Place
 open_places t = open_ops t t.count ++ each_below (open_arcs_from t t.count) t.count
 
 -- whether an entry asks for nothing, or the other is the same, or its opposite where negated
@@ -77,22 +77,22 @@ belonging classes column =
     else Const false
 
 -- what the columns of the operations below n belong to
-abbrev pub op_belongings : Table → List (List Bit3) → ℕ → List Belongs
+abbrev pub op_belongings : Columns → List (List Bit3) → ℕ → List Belongs
 op_belongings t classes n = each_below (λ v. belonging classes (column_at t (Op (record { 0 = v }))) ∷ []) n
 
 -- what the columns of the pairs from u belong to, and the constant 0 for u itself
-abbrev pub arc_belongings_from : Table → List (List Bit3) → ℕ → ℕ → List Belongs
+abbrev pub arc_belongings_from : Columns → List (List Bit3) → ℕ → ℕ → List Belongs
 arc_belongings_from t classes n u =
     each_below (λ v. (if u == v then Const false else belonging classes (column_at t (Arc (record { 0 = u }) (record { 0 = v })))) ∷ []) n
 
 -- those of the pairs from each operation below m
-abbrev pub arc_belongings : Table → List (List Bit3) → ℕ → ℕ → List Belongs
+abbrev pub arc_belongings : Columns → List (List Bit3) → ℕ → ℕ → List Belongs
 arc_belongings t classes n m = each_below (arc_belongings_from t classes n) m
 
 -- one of these classes serves the column, if it is open
 abbrev pub HasClass : List (List Bit3) → List Bit3 → Type 0
 HasClass classes column = IsTrue (is_open column) → first_class classes column < length classes
 
--- each open column of the table has a class
-pub record HaveClasses (classes : List (List Bit3)) (t : Table) : Type 0 where
+-- each open column has a class
+pub record HaveClasses (classes : List (List Bit3)) (t : Columns) : Type 0 where
   pub each : (p : Place) → IsPlace t.count p → HasClass classes (column_at t p)

@@ -6,15 +6,16 @@ ghost use Rattle.std.specs.List.{All};
 ghost use Rattle.cpog_defs.specs.Graphs.{IsPlace};
 ghost use Rattle.cpog_defs.specs.declared.types.Ref.{Ref};
 ghost use Rattle.cpog_defs.specs.Encodings.{Encoding};
-ghost use Rattle.cpog_merge.specs.Table.{column_at, AgreesWithTable};
+ghost use Rattle.cpog_merge.specs.Columns.{column_at, AgreesWith};
 ghost use Rattle.cpog_merge.specs.Classes.{AreClassPlaces, AreClassesOf};
 ghost use Rattle.gate_core.specs.Columns.{IsOpenColumn};
-ghost use Rattle.cpog_merge.specs.ByClass.{AgreeWithClasses, IsGraphByClass};
+ghost use Rattle.gate_core.specs.Serving.{ReferencesServe};
+ghost use Rattle.cpog_merge.specs.ByClass.{IsGraphByClass};
 ghost use Rattle.cpog_merge.specs.Opens.{is_open as is_open_column, open_ops, open_arcs_from, open_places as places_open, chosen, op_belongings, arc_belongings_from, arc_belongings, HaveClasses};
 
 use crate::class_list::{Belongs, ClassList};
+use crate::columns::Columns;
 use crate::serving::{belongs_to, is_class, is_open};
-use crate::table::Columns;
 use cpog_base::{Column, Memory, OpId};
 use cpog_defs::types::Place;
 use std::alloc::Global;
@@ -104,7 +105,7 @@ fn class_places(alloc: Global, columns: &Columns) -> Result<Vec<Place>, Memory>
     ensures places { IfOk result (λ places. AreClassPlaces columns.now places.items) }
     ensures few { IfOk result (λ places. length places.items ≤ 16384) }
 {
-    // What makes the columns a table is known once their count is read.
+    // That no column is missing is known once their count is read.
     let _count = columns.count();
     let open = open_places(alloc, columns)?;
     let open_columns = columns_of(alloc, columns, &open)?;
@@ -179,7 +180,7 @@ pub fn classes(alloc: Global, columns: &Columns) -> Result<ClassList, Memory>
 
     // Conditions that are those of the classes agree with all columns.
     ensures graphs { IfOk result (λ list. (e : Encoding) (refs : List Ref) → length e.codes ≡ columns.now.scenarios →
-        AgreeWithClasses e.gates e.codes list refs → IsGraphByClass columns.now.count list refs e.graph → AgreesWithTable e columns.now) }
+        ReferencesServe list.columns e.codes e.gates refs → IsGraphByClass columns.now.count list refs e.graph → AgreesWith e columns.now) }
 {
     let count = columns.count();
     let places = class_places(alloc, columns)?;

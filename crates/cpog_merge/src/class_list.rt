@@ -59,6 +59,14 @@ impl ClassList {
         }
     }
 
+    /// How many operations there may be.
+    pub fn operations(&self) -> u8
+        ensures operations { result ≡ self.now.count }
+        ensures list { IsClassList self.now }
+    {
+        self.count
+    }
+
     /// How many classes there are.
     pub fn count(&self) -> u32
         ensures count { result ≡ length self.now.columns }

@@ -1,6 +1,6 @@
 //! What columns and their classes tell of encodings.
 
-ghost use Rattle.cpog_merge.specs.Laws.{FitsIsAgreeing, FitsIsFittingScenarios, ServedAgree, BelongsToOne, ClassesAreOne, ReferencesStay, GraphByClassAgrees, SmallerSetsAreFew, JoiningIsBounded};
+ghost use Rattle.cpog_merge.specs.Laws.{FitsIsAgreeing, FitsIsFittingScenarios, ServedAgree, BelongsToOne, ClassesAreOne, SameColumnsSameClasses, ClassesAreOpen, ReferencesStay, GraphByClassAgrees, GraphServesClasses, GraphByClassIsGraph, OneGraphByClass, SmallerSetsAreFew, JoiningIsBounded};
 
 /// An encoding fits orders exactly where each of its conditions has, on each code, the value of its column's entry
 /// (Mokhov and Yakovlev 2010: the encoding constraints of a conditional partial order graph).
@@ -23,9 +23,19 @@ pub fn belongs_to_one()
     ensures { BelongsToOne }
 {}
 
-/// A table has one list of classes, and each of its columns belongs to one of them or to one constant.
+/// Columns have one list of classes, and each belongs to one of them or to one constant.
 pub fn classes_are_one()
     ensures { ClassesAreOne }
+{}
+
+/// Columns that are the same at each place have the same classes.
+pub fn same_columns_same_classes()
+    ensures { SameColumnsSameClasses }
+{}
+
+/// The classes are open columns, with an entry for each scenario.
+pub fn classes_are_open()
+    ensures { ClassesAreOpen }
 {}
 
 /// The reference that a column takes by its class is over the same signals as those of the classes.
@@ -36,6 +46,21 @@ pub fn references_stay()
 /// A graph whose conditions are those of the classes agrees with every column.
 pub fn graph_by_class_agrees()
     ensures { GraphByClassAgrees }
+{}
+
+/// A graph that agrees with every column has, at the places of the classes, references that serve these, and no constant.
+pub fn graph_serves_classes()
+    ensures { GraphServesClasses }
+{}
+
+/// The graph by the classes is a conditional graph over the signals of the references, and has the conditions of the classes.
+pub fn graph_by_class_is_graph()
+    ensures { GraphByClassIsGraph }
+{}
+
+/// A graph whose conditions are those of the classes is the graph by the classes.
+pub fn one_graph_by_class()
+    ensures { OneGraphByClass }
 {}
 
 /// An operation's smaller set has at most the scenarios that lack it, a pair's at most those of which it is a covering

@@ -1,5 +1,5 @@
 -- How many gates the first encoding has. Gates over two inputs are few, since no gate is there twice; the further gates
--- of the minterm of a scenario are put there once; and each column joins as many minterms as its smaller set has, less one.
+-- of the minterm of a code are put there once; and each column joins as many minterms as its smaller set has, less one.
 use Rattle.std.proofs.Common.{◌≡◌, ℕ, zero, suc, ◌+◌, ◌-◌, ◌*◌, ◌^◌, ◌<◌, ◌≤◌, ◌==◌, nat_lt, min, Bool, true, false, not, cond, ◌&&◌, ◌||◌, if◌then◌else◌, IsTrue, List, [], ◌∷◌, ◌++◌, length, slice_index_or, refl, sym, ap, ap₂, ◌∙◌, subst, inl, inr, arith, length-append, append-nil}
 use Rattle.std.specs.List.{list_any, position_or_len, count_by, sum_by, All, AllByRecursion}
 use Rattle.std.proofs.lemmas.Bool.{cases_lt, cases_eq, both_ways, cases_Bool, or_parts, or_left, or_right, or_from, and_right, and_from, eqb-true, eq-eqb, lt-ltb, ltb-true}
@@ -15,11 +15,11 @@ use Rattle.cpog_defs.specs.Entries.{entry_at}
 use Rattle.cpog_base.specs.Column.{is_one, is_zero}
 use Rattle.gate_core.specs.Columns.{smaller_set}
 use Rattle.cpog_defs.specs.Codes.{bit}
-use Rattle.gate_core.specs.First.{only_at, same_gate, Reached, with_gate, minterm, minterms, joined, sum_of_minterms, scenarios_where, has_fewer_zeros, smaller_scenarios, Takes, TakesAll, joins_of, all_joins, FirstEncoding, IsFirstEncoding, HasFewGates}
+use Rattle.gate_core.specs.First.{only_at, same_gate, Reached, with_gate, minterm, minterms, joined, sum_of_minterms, code_at, codes_where, has_fewer_zeros, smaller_codes, Takes, TakesAll, joins_of, all_joins, FirstEncoding, IsFirstEncoding, HasFewGates}
 use Rattle.gate_core.specs.Words.{IsEncodable}
 use Rattle.gate_core.proofs.ExtendLemmas.{Extends, extends_self, extends_trans, extends_last, with_last, same_gates, with_gate-there, with_gate-new, with_gate-signal}
 use Rattle.gate_core.proofs.MintermLemmas.{or_gate}
-use Rattle.gate_core.proofs.TakeLemmas.{passing-lt, all_weaker, length-scenarios, two_inputs, taken, all_taken}
+use Rattle.gate_core.proofs.TakeLemmas.{IsCodeBelow, passing_codes, length-codes, two_inputs, taken, all_taken}
 
 -- ---- a gate that is there again
 
@@ -221,7 +221,7 @@ extends_same a b x e =
     empty [] e = refl
     empty (g ∷ xs) e = absurd (omega arith)
 
--- whether to put the minterm of a scenario to the list appends no gate
+-- whether to put the minterm of a code to the list appends no gate
 pub is_done : GateList → ℕ → Bool
 is_done list s = length (minterm list s (list.inputs - 2)).gates.gates == length list.gates
 
@@ -240,111 +240,119 @@ done_behind list after s x inputs =
 pub done_stays : (a b : GateList) → Extends a b → (s : ℕ) → IsTrue (is_done a s) → IsTrue (is_done b s)
 done_stays a b x s t = done_behind a b s (subst (λ g. Extends g b) (sym (done_tells a s t)) x) x.inputs
 
+-- the same of the code of a scenario, and of how many scenarios it holds
+abbrev pub done_at : List ℕ → GateList → ℕ → Bool
+done_at codes list s = is_done list (code_at codes s)
+
+abbrev pub done_count : List ℕ → GateList → ℕ
+done_count codes list = how_many (done_at codes list) (length codes)
+
 -- gates over two inputs are counted by themselves, and the further ones by the minterms that are there and what joins them
-pub record Bounded (n : ℕ) (list : GateList) (joins : ℕ) : Type 0 where
-  pub holds : Holds list ((list.inputs - 2) * how_many (is_done list) n + joins)
+pub record Bounded (codes : List ℕ) (list : GateList) (joins : ℕ) : Type 0 where
+  pub holds : Holds list ((list.inputs - 2) * done_count codes list + joins)
 
 -- further gates keep the minterms that are there
-pub bounded_behind : (n : ℕ) (a b : GateList) (joins more : ℕ) → Extends a b → Holds b ((a.inputs - 2) * how_many (is_done a) n + joins + more) → Bounded n b (joins + more)
-bounded_behind n a b joins more x h = record {
-  holds = holds_more b _ _ (total (a.inputs - 2) (b.inputs - 2) (how_many (is_done a) n) (how_many (is_done b) n) (ap (λ k. k - 2) x.inputs) (more_pass (is_done a) (is_done b) (done_stays a b x) n)) h;
+pub bounded_behind : (codes : List ℕ) (a b : GateList) (joins more : ℕ) → Extends a b → Holds b ((a.inputs - 2) * done_count codes a + joins + more) → Bounded codes b (joins + more)
+bounded_behind codes a b joins more x h = record {
+  holds = holds_more b _ _ (total (a.inputs - 2) (b.inputs - 2) (done_count codes a) (done_count codes b) (ap (λ k. k - 2) x.inputs) (more_pass (done_at codes a) (done_at codes b) (λ s. done_stays a b x (code_at codes s)) (length codes))) h;
 }
   where
     total : (k l p q : ℕ) → l ≡ k → p ≤ q → k * p + joins + more ≤ l * q + (joins + more)
     total k l p q e m = rw e (omega (arith, mul-le-mul_left k m))
 
-pub minterm_bounded : (n : ℕ) (list : GateList) (joins s : ℕ) → 2 ≤ list.inputs → s < n → Bounded n list joins → Bounded n (minterm list s (list.inputs - 2)).gates joins
-minterm_bounded n list joins s two l h = elim (cases_Bool (is_done list s)) [
-  | inl there ↦ subst (λ g. Bounded n g joins) (sym (done_tells list s there)) h
+pub minterm_bounded : (codes : List ℕ) (list : GateList) (joins s : ℕ) → 2 ≤ list.inputs → IsCodeBelow codes (length codes) s → Bounded codes list joins → Bounded codes (minterm list s (list.inputs - 2)).gates joins
+minterm_bounded codes list joins s two l h = elim (cases_Bool (is_done list s)) [
+  | inl there ↦ subst (λ g. Bounded codes g joins) (sym (done_tells list s there)) h
   | inr new ↦
       let k = list.inputs - 2 in
       let after = (minterm list s k).gates in
       let x = minterm_extends list s k in
-      let more = one_more_passes (is_done list) (is_done after) (done_stays list after x) n s l new (done_behind list after s (extends_self after) x.inputs) in
+      let more = one_more_passes (done_at codes list) (done_at codes after) (λ i. done_stays list after x (code_at codes i)) (length codes) l.0 l.1 (ap (is_done list) l.2 ∙ new)
+      (ap (is_done after) l.2 ∙ done_behind list after s (extends_self after) x.inputs) in
       record {
-        holds = holds_more after _ _ (total k (after.inputs - 2) (how_many (is_done list) n) (how_many (is_done after) n) (ap (λ i. i - 2) x.inputs) more) (minterm_holds list (k * how_many (is_done list) n + joins) s k two h.holds);
+        holds = holds_more after _ _ (total k (after.inputs - 2) (done_count codes list) (done_count codes after) (ap (λ i. i - 2) x.inputs) more) (minterm_holds list (k * done_count codes list + joins) s k two h.holds);
       }
 ]
   where
     total : (k l p q : ℕ) → l ≡ k → p + 1 ≤ q → k * p + joins + k ≤ l * q + joins
     total k l p q e m = rw e (omega (arith, mul-le-mul_left k m))
 
-pub minterms_bounded : (n : ℕ) (list : GateList) (joins : ℕ) (ss : List ℕ) → 2 ≤ list.inputs → AllByRecursion (λ s. s < n) ss → Bounded n list joins → Bounded n (minterms list ss).gates joins
+pub minterms_bounded : (codes : List ℕ) (list : GateList) (joins : ℕ) (ss : List ℕ) → 2 ≤ list.inputs → AllByRecursion (IsCodeBelow codes (length codes)) ss → Bounded codes list joins → Bounded codes (minterms list ss).gates joins
 unfolding minterms
-minterms_bounded n list joins [] two below h = h
-minterms_bounded n list joins (s ∷ ss) two below h =
+minterms_bounded codes list joins [] two below h = h
+minterms_bounded codes list joins (s ∷ ss) two below h =
     let one = minterm list s (list.inputs - 2) in
-    minterms_bounded n one.gates joins ss (omega (arith, (minterm_extends list s (list.inputs - 2)).inputs)) below.1 (minterm_bounded n list joins s two below.0 h)
+    minterms_bounded codes one.gates joins ss (omega (arith, (minterm_extends list s (list.inputs - 2)).inputs)) below.1 (minterm_bounded codes list joins s two below.0 h)
 
 length-minterms : (list : GateList) (ss : List ℕ) → length (minterms list ss).signals ≡ length ss
 unfolding minterms
 length-minterms list [] = refl
 length-minterms list (s ∷ ss) = omega (arith, length-minterms (minterm list s (list.inputs - 2)).gates ss)
 
-pub sum_bounded : (n : ℕ) (list : GateList) (joins : ℕ) (ss : List ℕ) → 2 ≤ list.inputs → AllByRecursion (λ s. s < n) ss → Bounded n list joins → Bounded n (sum_of_minterms list ss).gates (joins + (length ss - 1))
+pub sum_bounded : (codes : List ℕ) (list : GateList) (joins : ℕ) (ss : List ℕ) → 2 ≤ list.inputs → AllByRecursion (IsCodeBelow codes (length codes)) ss → Bounded codes list joins → Bounded codes (sum_of_minterms list ss).gates (joins + (length ss - 1))
 unfolding sum_of_minterms
-sum_bounded n list joins [] two below h = record { holds = holds_more list _ _ (omega arith) h.holds }
-sum_bounded n list joins (s ∷ ss) two below h =
+sum_bounded codes list joins [] two below h = record { holds = holds_more list _ _ (omega arith) h.holds }
+sum_bounded codes list joins (s ∷ ss) two below h =
     let one = minterm list s (list.inputs - 2) in
     let others = minterms one.gates ss in
     let start = reached others.gates one.signal in
-    let b = minterms_bounded n one.gates joins ss (omega (arith, (minterm_extends list s (list.inputs - 2)).inputs)) below.1 (minterm_bounded n list joins s two below.0 h) in
+    let b = minterms_bounded codes one.gates joins ss (omega (arith, (minterm_extends list s (list.inputs - 2)).inputs)) below.1 (minterm_bounded codes list joins s two below.0 h) in
     let long : length others.signals ≡ length (s ∷ ss) - 1 = omega (arith, length-minterms one.gates ss) in
-    subst (λ m. Bounded n (joined start others.signals).gates (joins + m)) long
-    (bounded_behind n others.gates (joined start others.signals).gates joins (length others.signals) (joined_extends start others.signals) (joined_holds start _ others.signals b.holds))
+    subst (λ m. Bounded codes (joined start others.signals).gates (joins + m)) long
+    (bounded_behind codes others.gates (joined start others.signals).gates joins (length others.signals) (joined_extends start others.signals) (joined_holds start _ others.signals b.holds))
 
-pub pair_bounded : (n : ℕ) (list : GateList) (joins : ℕ) (gate : Gate) → gate.k < list.inputs → Bounded n list joins → Bounded n (with_gate list gate).gates (joins + 0)
-pair_bounded n list joins gate l h =
-    let b = pair_holds list ((list.inputs - 2) * how_many (is_done list) n + joins) gate l h.holds in
-    bounded_behind n list (with_gate list gate).gates joins 0 (with_gate_extends list gate) (holds_more _ _ _ (omega arith) b)
+pub pair_bounded : (codes : List ℕ) (list : GateList) (joins : ℕ) (gate : Gate) → gate.k < list.inputs → Bounded codes list joins → Bounded codes (with_gate list gate).gates (joins + 0)
+pair_bounded codes list joins gate l h =
+    let b = pair_holds list ((list.inputs - 2) * done_count codes list + joins) gate l h.holds in
+    bounded_behind codes list (with_gate list gate).gates joins 0 (with_gate_extends list gate) (holds_more _ _ _ (omega arith) b)
 
 -- ---- columns
 
-bounded_more : (n : ℕ) (list : GateList) (a b : ℕ) → a ≤ b → Bounded n list a → Bounded n list b
-bounded_more n list a b l h = record { holds = holds_more list _ _ (omega (arith, l)) h.holds }
+bounded_more : (codes : List ℕ) (list : GateList) (a b : ℕ) → a ≤ b → Bounded codes list a → Bounded codes list b
+bounded_more codes list a b l h = record { holds = holds_more list _ _ (omega (arith, l)) h.holds }
 
-length-smaller : (column : List Bit3) → length (smaller_scenarios column) ≡ smaller_set column
-length-smaller column = by (has_fewer_zeros column) refl
+length-smaller : (codes : List ℕ) (column : List Bit3) → length (smaller_codes codes column) ≡ smaller_set column
+length-smaller codes column = by (has_fewer_zeros column) refl
   where
-    by : (b : Bool) → nat_lt (count_by is_zero column) (count_by is_one column) ≡ b → length (if b then scenarios_where is_zero column else scenarios_where is_one column) ≡ min (count_by is_one column) (count_by is_zero column)
-    by true e = length-scenarios is_zero column ∙ least (count_by is_zero column) (count_by is_one column) e
+    by : (b : Bool) → nat_lt (count_by is_zero column) (count_by is_one column) ≡ b → length (if b then codes_where is_zero codes column else codes_where is_one codes column) ≡ min (count_by is_one column) (count_by is_zero column)
+    by true e = length-codes is_zero codes column ∙ least (count_by is_zero column) (count_by is_one column) e
       where
         least : (m n : ℕ) → nat_lt m n ≡ true → m ≡ min n m
         least m n e = grind (arith, nat_tests)
-    by false e = length-scenarios is_one column ∙ least (count_by is_zero column) (count_by is_one column) e
+    by false e = length-codes is_one codes column ∙ least (count_by is_zero column) (count_by is_one column) e
       where
         least : (m n : ℕ) → nat_lt m n ≡ false → n ≡ min n m
         least m n e = grind (arith, nat_tests)
 
-smaller-lt : (n : ℕ) (column : List Bit3) → length column ≤ n → AllByRecursion (λ s. s < n) (smaller_scenarios column)
-smaller-lt n column l = all_weaker (λ s. s < length column) (λ s. s < n) (λ s m. omega (arith, l, m)) (smaller_scenarios column) (by (has_fewer_zeros column))
+smaller_are_codes : (codes : List ℕ) (column : List Bit3) → length column ≡ length codes → AllByRecursion (IsCodeBelow codes (length codes)) (smaller_codes codes column)
+smaller_are_codes codes column e = subst (λ n. AllByRecursion (IsCodeBelow codes n) (smaller_codes codes column)) e (by (has_fewer_zeros column))
   where
-    by : (b : Bool) → AllByRecursion (λ s. s < length column) (if b then scenarios_where is_zero column else scenarios_where is_one column)
-    by true = passing-lt (λ s. is_zero (entry_at column s)) (length column)
-    by false = passing-lt (λ s. is_one (entry_at column s)) (length column)
+    by : (b : Bool) → AllByRecursion (IsCodeBelow codes (length column)) (if b then codes_where is_zero codes column else codes_where is_one codes column)
+    by true = passing_codes (λ s. is_zero (entry_at column s)) codes (length column)
+    by false = passing_codes (λ s. is_one (entry_at column s)) codes (length column)
 
-pub takes_bounded : (before : GateList) (joins : ℕ) (column : List Bit3) → 1 ≤ before.inputs → IsEncodable before.inputs column → Bounded 64 before joins →
-    (after : GateList) (ref : Ref) (t : Takes before column after ref) → Bounded 64 after (joins + joins_of before column after ref t)
-takes_bounded before joins column some enc h after ref t = elim t as (λ u. Bounded 64 after (joins + joins_of before column after ref u)) [
-  | inl a ↦ subst (λ g. Bounded 64 g (joins + 0)) (sym a.gates) (bounded_more 64 before joins _ (omega arith) h)
-  | inr u ↦ elim u as (λ w. Bounded 64 after (joins + joins_of before column after ref (inr w))) [
-    | inl b ↦ subst (λ g. Bounded 64 g (joins + 0)) (sym b.gates) (pair_bounded 64 before joins b.gate b.pair.in_range h)
+pub takes_bounded : (codes : List ℕ) (before : GateList) (joins : ℕ) (column : List Bit3) → 1 ≤ before.inputs → IsEncodable codes before.inputs column → Bounded codes before joins →
+    (after : GateList) (ref : Ref) (t : Takes codes before column after ref) → Bounded codes after (joins + joins_of codes before column after ref t)
+takes_bounded codes before joins column some enc h after ref t = elim t as (λ u. Bounded codes after (joins + joins_of codes before column after ref u)) [
+  | inl a ↦ subst (λ g. Bounded codes g (joins + 0)) (sym a.gates) (bounded_more codes before joins _ (omega arith) h)
+  | inr u ↦ elim u as (λ w. Bounded codes after (joins + joins_of codes before column after ref (inr w))) [
+    | inl b ↦ subst (λ g. Bounded codes g (joins + 0)) (sym b.gates) (pair_bounded codes before joins b.gate b.pair.in_range h)
     | inr c ↦
-        let q = smaller_scenarios column in
-        subst (λ g. Bounded 64 g (joins + (smaller_set column - 1))) (sym c.gates) (subst (λ m. Bounded 64 (sum_of_minterms before q).gates (joins + (m - 1))) (length-smaller column)
-        (sum_bounded 64 before joins q (two_inputs before.inputs column enc before refl some c.none) (smaller-lt 64 column enc.few) h))
+        let q = smaller_codes codes column in
+        subst (λ g. Bounded codes g (joins + (smaller_set column - 1))) (sym c.gates) (subst (λ m. Bounded codes (sum_of_minterms before q).gates (joins + (m - 1))) (length-smaller codes column)
+        (sum_bounded codes before joins q (two_inputs codes before.inputs column enc before refl some c.none) (smaller_are_codes codes column enc.is_open.entries) h))
   ]
 ]
 
-pub takes_all_bounded : (before : GateList) (joins : ℕ) → IsGateList before → 1 ≤ before.inputs → Bounded 64 before joins → (columns : List (List Bit3)) → All (IsEncodable before.inputs) columns →
-    (after : GateList) (refs : List Ref) (t : TakesAll before columns after refs) → Bounded 64 after (joins + all_joins before columns after refs t)
-takes_all_bounded before joins ok some h [] enc after refs t = subst (λ g. Bounded 64 g (joins + 0)) (sym t.0) (bounded_more 64 before joins (joins + 0) (omega arith) h)
-takes_all_bounded before joins ok some h (column ∷ columns) enc after refs t =
+pub takes_all_bounded : (codes : List ℕ) (before : GateList) (joins : ℕ) → IsGateList before → 1 ≤ before.inputs → Bounded codes before joins → (columns : List (List Bit3)) → All (IsEncodable codes before.inputs) columns →
+    (after : GateList) (refs : List Ref) (t : TakesAll codes before columns after refs) → Bounded codes after (joins + all_joins codes before columns after refs t)
+takes_all_bounded codes before joins ok some h [] enc after refs t = subst (λ g. Bounded codes g (joins + 0)) (sym t.0) (bounded_more codes before joins (joins + 0) (omega arith) h)
+takes_all_bounded codes before joins ok some h (column ∷ columns) enc after refs t =
     let between = t.0 in
-    let one = taken before column ok some (enc 0 column (omega arith)) between t.1 t.4 in
-    let b = takes_bounded before joins column some (enc 0 column (omega arith)) h between t.1 t.4 in
-    bounded_more 64 after _ _ (omega arith)
-    (takes_all_bounded between (joins + joins_of before column between t.1 t.4) one.gates (omega (arith, one.extends.inputs)) b columns (λ k d l. subst (λ i. IsEncodable i (slice_index_or columns k d)) (sym one.extends.inputs) (enc (suc k) d (omega arith))) after t.2 t.5)
+    let one = taken codes before column ok some (enc 0 column (omega arith)) between t.1 t.4 in
+    let b = takes_bounded codes before joins column some (enc 0 column (omega arith)) h between t.1 t.4 in
+    bounded_more codes after _ _ (omega arith)
+    (takes_all_bounded codes between (joins + joins_of codes before column between t.1 t.4) one.gates (omega (arith, one.extends.inputs)) b columns (λ k d l. subst (λ i. IsEncodable codes i (slice_index_or columns k d)) (sym one.extends.inputs) (enc (suc k) d (omega arith))) after t.2 t.5)
 
 -- ---- gates over two inputs
 
@@ -416,61 +424,64 @@ pairs_counted m n (g ∷ gates) l ok none = by (nat_lt g.k m) refl (pairs_counte
 
 -- ---- the whole
 
-pub few_gates : (list : GateList) (joins : ℕ) → IsGateList list → list.inputs ≤ 8 → Bounded 64 list joins → length list.gates ≤ 832 + joins
-few_gates list joins ok eight h =
+pub few_gates : (codes : List ℕ) (list : GateList) (joins : ℕ) → length codes ≤ 64 → IsGateList list → list.inputs ≤ 8 → Bounded codes list joins → length list.gates ≤ 832 + joins
+few_gates codes list joins few ok eight h =
     let pairs : pair_gates list.inputs list.gates ≤ 448 = omega (arith, pairs_counted list.inputs list.inputs list.gates eight ok h.holds.none_twice, how_many-le (has_row list.inputs list.gates) 448) in
-    omega (arith, pairs, pairs_and_others list.inputs list.gates, h.holds.few, product (list.inputs - 2) (how_many (is_done list) 64) (omega arith) (how_many-le (is_done list) 64))
+    omega (arith, pairs, pairs_and_others list.inputs list.gates, h.holds.few, product (list.inputs - 2) (done_count codes list) (omega arith) at_most)
   where
+    at_most : done_count codes list ≤ 64
+    at_most = omega (arith, few, how_many-le (done_at codes list) (length codes))
+
     product : (k m : ℕ) → k ≤ 6 → m ≤ 64 → k * m ≤ 384
     product k m a b = omega (arith, mul-le-mul_left k b)
 
-pub nothing_bounded : (list : GateList) → list.gates ≡ [] → Bounded 64 list 0
+pub nothing_bounded : (codes : List ℕ) (list : GateList) → list.gates ≡ [] → Bounded codes list 0
 unfolding other_gates
-nothing_bounded list none = record { holds = record { none_twice = subst NoneTwice (sym none) tt; few = omega (arith, ap (other_gates list.inputs) none) } }
+nothing_bounded codes list none = record { holds = record { none_twice = subst NoneTwice (sym none) tt; few = omega (arith, ap (other_gates list.inputs) none) } }
 
 -- the gates of columns that begin with none
-pub whole_bounded : (before : GateList) → before.gates ≡ [] → 1 ≤ before.inputs → before.inputs ≤ 8 → (columns : List (List Bit3)) → All (IsEncodable before.inputs) columns →
-    (after : GateList) (refs : List Ref) (t : TakesAll before columns after refs) → length after.gates ≤ 832 + all_joins before columns after refs t
-whole_bounded before none some eight columns enc after refs t =
+pub whole_bounded : (codes : List ℕ) (before : GateList) → length codes ≤ 64 → before.gates ≡ [] → 1 ≤ before.inputs → before.inputs ≤ 8 → (columns : List (List Bit3)) → All (IsEncodable codes before.inputs) columns →
+    (after : GateList) (refs : List Ref) (t : TakesAll codes before columns after refs) → length after.gates ≤ 832 + all_joins codes before columns after refs t
+whole_bounded codes before few none some eight columns enc after refs t =
     let ok : IsGateList before = subst (AreGatesFrom before.inputs) (sym none) tt in
-    let all = all_taken before ok some columns enc after refs t in
-    let bound = few_gates after (0 + all_joins before columns after refs t) all.gates (omega (arith, all.extends.inputs)) (takes_all_bounded before 0 ok some (nothing_bounded before none) columns enc after refs t) in
+    let all = all_taken codes before ok some columns enc after refs t in
+    let bound = few_gates codes after (0 + all_joins codes before columns after refs t) few all.gates (omega (arith, all.extends.inputs)) (takes_all_bounded codes before 0 ok some (nothing_bounded codes before none) columns enc after refs t) in
     omega (arith, bound)
 
 -- where every column needed minterms, there would be as many
-joins_are_few : (before : GateList) (columns : List (List Bit3)) (after : GateList) (refs : List Ref) (t : TakesAll before columns after refs) →
-    all_joins before columns after refs t ≤ sum_by (λ column. smaller_set column - 1) columns
-joins_are_few before [] after refs t = omega arith
-joins_are_few before (column ∷ columns) after refs t = omega (
+joins_are_few : (codes : List ℕ) (before : GateList) (columns : List (List Bit3)) (after : GateList) (refs : List Ref) (t : TakesAll codes before columns after refs) →
+    all_joins codes before columns after refs t ≤ sum_by (λ column. smaller_set column - 1) columns
+joins_are_few codes before [] after refs t = omega arith
+joins_are_few codes before (column ∷ columns) after refs t = omega (
   arith,
   one (t.4),
-  joins_are_few t.0 columns after t.2 t.5,
+  joins_are_few codes t.0 columns after t.2 t.5,
   sum_by-cons (λ c. smaller_set c - 1) column columns,
 )
   where
-    one : (u : Takes before column t.0 t.1) → joins_of before column t.0 t.1 u ≤ smaller_set column - 1
-    one u = elim u as (λ w. joins_of before column t.0 t.1 w ≤ smaller_set column - 1) [
+    one : (u : Takes codes before column t.0 t.1) → joins_of codes before column t.0 t.1 u ≤ smaller_set column - 1
+    one u = elim u as (λ w. joins_of codes before column t.0 t.1 w ≤ smaller_set column - 1) [
       | inl a ↦ omega arith
-      | inr w ↦ elim w as (λ x. joins_of before column t.0 t.1 (inr x) ≤ smaller_set column - 1) [ inl b ↦ omega arith | inr c ↦ omega arith ]
+      | inr w ↦ elim w as (λ x. joins_of codes before column t.0 t.1 (inr x) ≤ smaller_set column - 1) [ inl b ↦ omega arith | inr c ↦ omega arith ]
     ]
 
 -- so at most 2 ^ 24 columns leave room for one more among the signals of 32-bit numbers
-pub few_in_all : (before : GateList) → before.gates ≡ [] → 1 ≤ before.inputs → before.inputs ≤ 8 → (columns : List (List Bit3)) → All (IsEncodable before.inputs) columns → length columns ≤ 16777216 →
-    (after : GateList) (refs : List Ref) → TakesAll before columns after refs → length after.gates < 2 ^ 30
-few_in_all before none some eight columns enc l after refs t = omega (
+pub few_in_all : (codes : List ℕ) (before : GateList) → length codes ≤ 64 → before.gates ≡ [] → 1 ≤ before.inputs → before.inputs ≤ 8 → (columns : List (List Bit3)) → All (IsEncodable codes before.inputs) columns → length columns ≤ 16777216 →
+    (after : GateList) (refs : List Ref) → TakesAll codes before columns after refs → length after.gates < 2 ^ 30
+few_in_all codes before few none some eight columns enc l after refs t = omega (
   arith,
   l,
-  whole_bounded before none some eight columns enc after refs t,
-  joins_are_few before columns after refs t,
-  sum_by-le (λ column. smaller_set column - 1) 63 columns (λ k d m. small (slice_index_or columns k d) (enc k d m).few),
+  whole_bounded codes before few none some eight columns enc after refs t,
+  joins_are_few codes before columns after refs t,
+  sum_by-le (λ column. smaller_set column - 1) 63 columns (λ k d m. small (slice_index_or columns k d) (omega (arith, (enc k d m).few, (enc k d m).is_open.entries))),
 )
   where
     small : (column : List Bit3) → length column ≤ 64 → smaller_set column - 1 ≤ 63
     small column m = omega (arith, m, count_by-le-length is_one column)
 
-pub few_by_smaller : (n bits : ℕ) (columns : List (List Bit3)) (e : FirstEncoding) → IsFirstEncoding n bits columns e → HasFewGates n bits columns e →
+pub few_by_smaller : (codes : List ℕ) (bits : ℕ) (columns : List (List Bit3)) (e : FirstEncoding) → IsFirstEncoding codes bits columns e → HasFewGates codes bits columns e →
     length e.gates.gates ≤ 832 + sum_by (λ column. smaller_set column - 1) columns
-few_by_smaller n bits columns e first few =
+few_by_smaller codes bits columns e first few =
     let start : GateList = record { inputs = bits; gates = [] } in
-    let made : length e.gates.gates ≤ 832 + all_joins start columns e.gates e.refs first.refs = few first in
-    omega (arith, made, joins_are_few start columns e.gates e.refs first.refs)
+    let made : length e.gates.gates ≤ 832 + all_joins codes start columns e.gates e.refs first.refs = few first in
+    omega (arith, made, joins_are_few codes start columns e.gates e.refs first.refs)

@@ -10,7 +10,7 @@ use Rattle.cpog_defs.specs.Codes.{bit}
 use Rattle.cpog_defs.specs.Entries.{entry_at}
 use Rattle.cpog_defs.specs.Gates.{GateList, signal_count}
 use Rattle.cpog_base.specs.Column.{is_one, is_zero}
-use Rattle.gate_core.specs.First.{SignalAgrees, NoSignalAgrees, TellsApart, NoPairTells, IsFirstPair, IsBySignal}
+use Rattle.gate_core.specs.First.{code_at, SignalAgrees, NoSignalAgrees, TellsApart, NoPairTells, IsFirstPairOfInputs, IsBySignal}
 use Rattle.gate_core.specs.Words.{value_at, AreSignals, AreInputWords, IsAskedBy, IsMetBy, IsFirstMet, AreApart, NoneWith, IsFirstApart}
 use Rattle.gate_core.proofs.GateLemmas.{input-signal}
 use Rattle.gate_core.proofs.TakeLemmas.{signed, agrees_from, from_agrees, agrees_by, one_agrees, zero_agrees, entry_one, entry_zero}
@@ -43,7 +43,7 @@ false_signed true true e = refl
 false_signed true false e = absurd (both_ways _ e refl)
 false_signed false v e = e
 
-module _ (column : List Bit3) (ones zeros : ℕ) (asked : IsAskedBy column ones zeros) (few : length column ≤ 64) where
+module _ (codes : List ℕ) (column : List Bit3) (ones zeros : ℕ) (asked : IsAskedBy column ones zeros) (each : length column ≡ length codes) (few : length codes ≤ 64) where
   one_there : (s : ℕ) → IsTrue (bit ones s) → IsTrue (is_one (entry_at column s))
   one_there s t = sym (asked.ones_where s) ∙ t
 
@@ -52,19 +52,21 @@ module _ (column : List Bit3) (ones zeros : ℕ) (asked : IsAskedBy column ones 
 
   -- ---- signals
 
-  module _ (list : GateList) (words : List ℕ) (signals : AreSignals list words) where
-    met_agrees : (n : ℕ) (negated : Bool) → n < signal_count list → IsMetBy ones zeros negated (slice_index words n) → SignalAgrees list column n negated
-    met_agrees n negated l h = agrees_from list column n negated (λ s m. agrees_by (entry_at column s) (signed negated (value_at list n s))
-        (λ t. signed_true negated (value_at list n s) (sym (signals.values n s l (omega (arith, m, few))) ∙ (h s (omega (arith, m, few))).0 (asked.ones_where s ∙ t)))
-        (λ t. signed_false negated (value_at list n s) (sym (signals.values n s l (omega (arith, m, few))) ∙ (h s (omega (arith, m, few))).1 (asked.zeros_where s ∙ t))))
+  module _ (list : GateList) (words : List ℕ) (signals : AreSignals codes list words) where
+    met_agrees : (n : ℕ) (negated : Bool) → n < signal_count list → IsMetBy ones zeros negated (slice_index words n) → SignalAgrees list codes column n negated
+    met_agrees n negated l h = agrees_from list codes column n negated (λ s m. let v = value_at list n (code_at codes s) in agrees_by (entry_at column s) (signed negated v)
+        (λ t. signed_true negated v (sym (signals.values n s l m) ∙ (h s).0 (asked.ones_where s ∙ t)))
+        (λ t. signed_false negated v (sym (signals.values n s l m) ∙ (h s).1 (asked.zeros_where s ∙ t))))
 
-    agrees_met : (n : ℕ) (negated : Bool) → n < signal_count list → SignalAgrees list column n negated → IsMetBy ones zeros negated (slice_index words n)
-    agrees_met n negated l h s m = (
-      λ t. let e = one_there s t in signals.values n s l m ∙ true_signed negated (value_at list n s) (one_agrees (entry_at column s) (signed negated (value_at list n s)) (from_agrees list column n negated h s (one_within column s e)) e),
-      λ t. let e = zero_there s t in signals.values n s l m ∙ false_signed negated (value_at list n s) (zero_agrees (entry_at column s) (signed negated (value_at list n s)) (from_agrees list column n negated h s (zero_within column s e)) e),
+    agrees_met : (n : ℕ) (negated : Bool) → n < signal_count list → SignalAgrees list codes column n negated → IsMetBy ones zeros negated (slice_index words n)
+    agrees_met n negated l h s = let v = value_at list n (code_at codes s) in (
+      λ t. let e = one_there s t in let k : s < length codes = omega (arith, one_within column s e, each) in
+          signals.values n s l k ∙ true_signed negated v (one_agrees (entry_at column s) (signed negated v) (from_agrees list codes column n negated h s k) e),
+      λ t. let e = zero_there s t in let k : s < length codes = omega (arith, zero_within column s e, each) in
+          signals.values n s l k ∙ false_signed negated v (zero_agrees (entry_at column s) (signed negated v) (from_agrees list codes column n negated h s k) e),
     )
 
-    pub by_signal : (ref : Ref) → IsFirstMet ones zeros words ref → IsBySignal list column list ref
+    pub by_signal : (ref : Ref) → IsFirstMet ones zeros words ref → IsBySignal codes list column list ref
     by_signal ref h =
         let below : h.number < signal_count list = omega (arith, h.in_range, signals.one_each) in
         record {
@@ -80,16 +82,16 @@ module _ (column : List Bit3) (ones zeros : ℕ) (asked : IsAskedBy column ones 
           reference = h.is;
         }
 
-    pub none_agrees : ((k : ℕ) (negated : Bool) → k < length words → IsMetBy ones zeros negated (slice_index words k) → ⊥) → NoSignalAgrees list column
+    pub none_agrees : ((k : ℕ) (negated : Bool) → k < length words → IsMetBy ones zeros negated (slice_index words k) → ⊥) → NoSignalAgrees list codes column
     none_agrees none k negated l a = none k negated (omega (arith, l, signals.one_each)) (agrees_met k negated l a)
 
   -- ---- inputs
 
-  module _ (inputs : ℕ) (words : List ℕ) (h : AreInputWords inputs words) where
-    input_bit : (j s : ℕ) → j < inputs → s < length column → bit (slice_index words j) s ≡ bit s j
-    input_bit j s l m = h.values j s l (omega (arith, m, few))
+  module _ (inputs : ℕ) (words : List ℕ) (h : AreInputWords inputs codes words) where
+    input_bit : (j s : ℕ) → j < inputs → s < length column → bit (slice_index words j) s ≡ bit (code_at codes s) j
+    input_bit j s l m = h.values j s l (omega (arith, m, each))
 
-    apart_tells : (j k : ℕ) → j < inputs → k < inputs → AreApart ones zeros (slice_index words j) (slice_index words k) → TellsApart column j k
+    apart_tells : (j k : ℕ) → j < inputs → k < inputs → AreApart ones zeros (slice_index words j) (slice_index words k) → TellsApart codes column j k
     apart_tells j k lj lk apart s t one nil same_j same_k =
         let es = ap is_one one in
         let et = ap is_zero nil in
@@ -97,7 +99,7 @@ module _ (column : List Bit3) (ones zeros : ℕ) (asked : IsAskedBy column ones 
         let lt = zero_within column t et in
         apart s t (asked.ones_where s ∙ es) (asked.zeros_where t ∙ et) (input_bit j s lj ls ∙ same_j ∙ sym (input_bit j t lj lt)) (input_bit k s lk ls ∙ same_k ∙ sym (input_bit k t lk lt))
 
-    tells_apart : (j k : ℕ) → j < inputs → k < inputs → TellsApart column j k → AreApart ones zeros (slice_index words j) (slice_index words k)
+    tells_apart : (j k : ℕ) → j < inputs → k < inputs → TellsApart codes column j k → AreApart ones zeros (slice_index words j) (slice_index words k)
     tells_apart j k lj lk tells s t one nil same_j same_k =
         let es = one_there s one in
         let et = zero_there t nil in
@@ -105,7 +107,7 @@ module _ (column : List Bit3) (ones zeros : ℕ) (asked : IsAskedBy column ones 
         let lt = zero_within column t et in
         tells s t (entry_one (entry_at column s) es) (entry_zero (entry_at column t) et) (sym (input_bit j s lj ls) ∙ same_j ∙ input_bit j t lj lt) (sym (input_bit k s lk ls) ∙ same_k ∙ input_bit k t lk lt)
 
-    pub first_pair_is : (gate : Gate) → IsFirstApart ones zeros words gate → IsFirstPair inputs column gate
+    pub first_pair_is : (gate : Gate) → IsFirstApart ones zeros words gate → IsFirstPairOfInputs inputs codes column gate
     first_pair_is gate a =
         let w = a.gate_with in
         let lk : gate.k < inputs = omega (arith, w.in_range, h.one_each) in
@@ -130,12 +132,12 @@ module _ (column : List Bit3) (ones zeros : ℕ) (asked : IsAskedBy column ones 
           );
         }
 
-    pub no_pair_tells : ((j : ℕ) → NoneWith ones zeros words j) → NoPairTells inputs column
+    pub no_pair_tells : ((j : ℕ) → NoneWith ones zeros words j) → NoPairTells inputs codes column
     no_pair_tells none j k lower m tells = none j k lower (omega (arith, m, h.one_each)) (tells_apart j k (omega (arith, lower, m)) m tells)
 
 -- the first words of the signals are those of the inputs
-pub words_of_inputs : (list : GateList) (words : List ℕ) → AreSignals list words → AreInputWords list.inputs (take list.inputs words)
-words_of_inputs list words h = record {
+pub words_of_inputs : (codes : List ℕ) (list : GateList) (words : List ℕ) → AreSignals codes list words → AreInputWords list.inputs codes (take list.inputs words)
+words_of_inputs codes list words h = record {
   one_each = omega (arith, length-take list.inputs words, h.one_each);
-  values = λ n s l m. ap (λ w. bit w s) (get_or-take list.inputs words n 0 l) ∙ h.values n s (omega (arith, l)) m ∙ input-signal list s n l;
+  values = λ n s l m. ap (λ w. bit w s) (get_or-take list.inputs words n 0 l) ∙ h.values n s (omega (arith, l)) m ∙ input-signal list (code_at codes s) n l;
 }

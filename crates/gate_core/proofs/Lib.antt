@@ -9,3 +9,7 @@ pub mod BoundLemmas
 pub mod OnceLemmas
 pub mod PairLemmas
 pub mod SignalLemmas
+pub mod HallLemmas
+pub mod ReachLemmas
+pub mod LeastLemmas
+pub mod CodesLemmas

@@ -135,7 +135,7 @@ minterm_is list ok s (suc i) l =
 pub minterm_state : (list : GateList) → IsGateList list → (s i : ℕ) → i + 2 ≤ list.inputs → (r : Reached) → minterm list s i ≡ r → IsMinterm list s i r
 minterm_state list ok s i l r e = subst (IsMinterm list s i) e (minterm_is list ok s i l)
 
--- ---- minterms of some scenarios
+-- ---- minterms of some codes
 
 pub minterm_stays : (a b : GateList) → Extends a b → (s m : ℕ) → IsMintermSignal a s m → IsMintermSignal b s m
 minterm_stays a b x s m h = record {
@@ -192,7 +192,7 @@ minterms_are list ok two (s ∷ ss) =
 
 -- ---- minterms joined
 
--- some scenario has the word's bits
+-- some code has the word's bits
 abbrev pub SomeSame : ℕ → List ℕ → ℕ → Type 0
 SomeSame n [] t = ⊥
 SomeSame n (s ∷ ss) t = SameBits n s t ⊎ SomeSame n ss t
@@ -357,7 +357,7 @@ next_step list s i between number before j table is_j is_table r e =
     let gate : ℕ → ℕ → ℕ → Gate = λ a b t. record { j = a; k = b; table = t } in
     rw add-one (ap (λ x. with_gate x.gates (gate (i + 2) x.signal (only_at (bit s (i + 2)) true))) before ∙ ap₂ (λ a t. with_gate between (gate a number t)) (sym is_j) (sym is_table) ∙ e)
 
--- the minterms of the scenarios below a place are there, and those of the others are still to be put
+-- the minterms of the codes below a place are there, and those of the others are still to be put
 pub record MintermsTo (list : GateList) (ss : List ℕ) (i : ℕ) (between : GateList) (numbers : List ℕ) : Type 0 where
   pub ok : IsGateList between
   pub inputs : between.inputs ≡ list.inputs
@@ -403,7 +403,7 @@ pub joined_begin : (one : Reached) (ms : List ℕ) → CanJoinAll one.gates one.
 joined_begin one ms h = record { few = omega arith; inputs = refl; same = refl; rest = h }
 
 head_case : (list : GateList) (signal m : ℕ) (ms : List ℕ) → CanJoinAll list signal (m ∷ ms) → (s : ℕ) × (ss : List ℕ) × CanJoin list signal (s ∷ ss) (m ∷ ms)
-head_case list signal m ms h = by h.scenarios h.can_join
+head_case list signal m ms h = by h.codes h.can_join
   where
     by : (xs : List ℕ) → CanJoin list signal xs (m ∷ ms) → (s : ℕ) × (ss : List ℕ) × CanJoin list signal (s ∷ ss) (m ∷ ms)
     by [] c = absurd c.each
@@ -428,7 +428,7 @@ joined_next one ms i between h l r e =
       few = omega (arith, a.few, h.few);
       inputs = a.extends.inputs ∙ h.inputs;
       same = h.same ∙ ap (joined between) cut;
-      rest = record { scenarios = x.1; can_join = can_join_rest between.gates between.signal x.0 m x.1 (drop (i + 1) ms) x.2 };
+      rest = record { codes = x.1; can_join = can_join_rest between.gates between.signal x.0 m x.1 (drop (i + 1) ms) x.2 };
     })
 
 pub joined_end : (one : Reached) (ms : List ℕ) (i : ℕ) (between : Reached) → JoinedTo one ms i between → length ms ≤ i → joined one ms ≡ between
@@ -456,7 +456,7 @@ sum_to list ok two eight (s ∷ ss) some differ between numbers e =
     subst (λ r. SumTo list (s ∷ ss) r.gates r.signals) e (record {
       long = minterms_long (minterms list (s ∷ ss)).gates (s ∷ ss) (minterms list (s ∷ ss)).signals all.each;
       few = omega (arith, all.few, seven (list.inputs - 1) (length (s ∷ ss)) (omega arith));
-      rest = record { scenarios = ss; can_join = can_join list ok two s ss differ };
+      rest = record { codes = ss; can_join = can_join list ok two s ss differ };
       same = refl;
     })
 

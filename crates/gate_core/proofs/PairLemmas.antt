@@ -9,7 +9,8 @@ use Rattle.std.proofs.lemmas.Nat.Bits.{bit_at-pow_same, bit_at-pow_other, same_f
 use Rattle.cpog_defs.specs.Codes.{bit}
 use Rattle.cpog_defs.specs.Gates.{gate_value}
 use Rattle.gate_core.specs.Words.{AreApart, IsTableOf}
-use Rattle.gate_core.proofs.WordLemmas.{bit-and, bit-or, bit-not, bit-zero, below_64}
+use Rattle.cpog_base.specs.BitLaws.{bit-and, bit-or, bit-not, bit-zero}
+use Rattle.gate_core.proofs.WordLemmas.{below_64}
 
 -- ---- one row
 
@@ -67,7 +68,7 @@ cell word first second p q = bit_and (bit_and word (side p first)) (side q secon
 
 side_has : (p : Bool) (a s : ℕ) → a < 2 ^ 64 → s < 64 → IsTrue (bit (side p a) s) ↔ (bit a s ≡ p)
 side_has true a s l m = (λ t. t, λ t. t)
-side_has false a s l m = (λ t. not-true (bit a s) (sym (bit-not a s l m) ∙ t), λ f. bit-not a s l m ∙ not_from_false (bit a s) f)
+side_has false a s l m = (λ t. not-true (bit a s) (sym (bit-not w64 a s l m) ∙ t), λ f. bit-not w64 a s l m ∙ not_from_false (bit a s) f)
 
 module _ (word first second : ℕ) (lw : word < 2 ^ 64) (lf : first < 2 ^ 64) (ls : second < 2 ^ 64) where
   cell_has : (p q : Bool) (s : ℕ) → IsTrue (bit (cell word first second p q) s) → IsTrue (bit word s) × (bit first s ≡ p) × (bit second s ≡ q)

@@ -1,60 +1,28 @@
 -- The words of signals.
-use Rattle.std.proofs.Common.{◌≡◌, ℕ, zero, suc, ◌+◌, ◌*◌, ◌%◌, ◌^◌, ◌<◌, ◌≤◌, Bool, true, false, not, ◌&&◌, ◌||◌, if◌then◌else◌, List, [], ◌∷◌, ◌++◌, length, map, slice_index, slice_index_or, bit_and, bit_or, refl, sym, ap, ◌∙◌, subst, inl, inr, arith, length-append}
+use Rattle.std.proofs.Common.{◌≡◌, ℕ, zero, suc, ◌+◌, ◌*◌, ◌^◌, ◌<◌, ◌≤◌, Bool, true, false, not, ◌&&◌, ◌||◌, if◌then◌else◌, List, [], ◌∷◌, ◌++◌, length, map, slice_index, slice_index_or, bit_and, bit_or, refl, sym, ap, ◌∙◌, subst, inl, inr, arith, length-append}
 use Rattle.std.specs.Int.{w64, bit_not}
 use Rattle.std.specs.List.{list_any, position_or_len}
 use Rattle.std.proofs.lemmas.Bool.{cases_eq}
-use Rattle.std.proofs.Math.Pow.{pow-lt}
 use Rattle.std.proofs.lemmas.List.{get_or_append_left, get_or_at, map-append, length-map}
 use Rattle.cpog_defs.specs.declared.types.Gate.{Gate}
 use Rattle.cpog_defs.specs.Codes.{bit}
 use Rattle.cpog_defs.specs.Gates.{GateList, signal_count, gate_value}
-use Rattle.cpog_base.proofs.ColumnLemmas.{raised_same, raised_other, raised-lt}
+use Rattle.cpog_base.specs.BitLaws.{bit-and, bit-or, bit-not, bit-zero}
 use Rattle.gate_core.specs.Words.{gate_of, gates_of, value_at, AreSignals}
-use Rattle.gate_core.specs.First.{same_gate, Reached, with_gate}
+use Rattle.gate_core.specs.First.{code_at, same_gate, Reached, with_gate}
 use Rattle.cpog_base.proofs.NamesLemmas.{list_any-map, position_or_len-map}
 use Rattle.gate_core.proofs.GateLemmas.{input-signal, one_more_gate}
 use Rattle.gate_core.proofs.ExtendLemmas.{with_last, extends_last, extends-value, last-value}
-use Rattle.gate_core.proofs.WordLemmas.{bit-and, bit-or, bit-not, bit-above, bit-zero}
 
 -- ---- inputs
 
--- the values of an input on the words below s, and no other bit
-pub record IsInputTo (i s word : ℕ) : Type 0 where
-  pub below : word < 2 ^ s
-  pub bits : (k : ℕ) → k < s → bit word k ≡ bit k i
-
-pub no_input : (i : ℕ) → IsInputTo i 0 0
-no_input i = record { below = omega arith; bits = λ k m. absurd (omega arith) }
-
-module _ (i s word : ℕ) (l : s < 64) (h : IsInputTo i s word) where
-  wider : 2 ^ s < 2 ^ (s + 1)
-  wider = pow-lt (omega arith)
-
-  pub input_with : bit s i ≡ true → IsInputTo i (s + 1) (bit_or word (1 * 2 ^ s % 2 ^ 64))
-  input_with t = record {
-    below = raised-lt word s (s + 1) (omega arith) (omega (arith, h.below, wider));
-    bits = λ k m. elim (cases_eq k s) [
-      | inl same ↦ rw same (raised_same word s l ∙ sym t)
-      | inr other ↦ raised_other word s l k other ∙ h.bits k (omega arith)
-    ];
-  }
-
-  pub input_without : bit s i ≡ false → IsInputTo i (s + 1) word
-  input_without f = record {
-    below = omega (arith, h.below, wider);
-    bits = λ k m. elim (cases_eq k s) [
-      | inl same ↦ rw same (bit-above word s s h.below (omega arith) ∙ sym f)
-      | inr other ↦ h.bits k (omega arith)
-    ];
-  }
-
 -- so many words, each the values of the input of its number
-pub record AreInputsTo (i : ℕ) (words : List ℕ) : Type 0 where
+pub record AreInputsTo (codes : List ℕ) (i : ℕ) (words : List ℕ) : Type 0 where
   pub one_each : length words ≡ i
-  pub values : (n s : ℕ) → n < i → s < 64 → bit (slice_index words n) s ≡ bit s n
+  pub values : (n s : ℕ) → n < i → s < length codes → bit (slice_index words n) s ≡ bit (code_at codes s) n
 
-pub one_more_input : (i : ℕ) (words : List ℕ) (word : ℕ) → AreInputsTo i words → ((s : ℕ) → s < 64 → bit word s ≡ bit s i) → AreInputsTo (i + 1) (words ++ word ∷ [])
-one_more_input i words word h is = record {
+pub one_more_input : (codes : List ℕ) (i : ℕ) (words : List ℕ) (word : ℕ) → AreInputsTo codes i words → ((s : ℕ) → s < length codes → bit word s ≡ bit (code_at codes s) i) → AreInputsTo codes (i + 1) (words ++ word ∷ [])
+one_more_input codes i words word h is = record {
   one_each = omega (arith, length-append words (word ∷ []), h.one_each);
   values = λ n s l m. elim (cases_eq n i) [
     | inl same ↦ rw (same) (ap (λ w. bit w s) (get_or_at words word [] 0 i h.one_each) ∙ is s m)
@@ -62,13 +30,14 @@ one_more_input i words word h is = record {
   ];
 }
 
-pub only_inputs : (i : ℕ) (words : List ℕ) → 1 ≤ i → i ≤ 8 → AreInputsTo i words → AreSignals (record { inputs = i; gates = [] }) words
-only_inputs i words some few h = record {
+pub only_inputs : (codes : List ℕ) (i : ℕ) (words : List ℕ) → 1 ≤ i → i ≤ 8 → length codes ≤ 64 → AreInputsTo codes i words → AreSignals codes (record { inputs = i; gates = [] }) words
+only_inputs codes i words some few few_codes h = record {
   some = some;
   few = few;
+  few_codes = few_codes;
   gates = tt;
   one_each = omega (arith, h.one_each);
-  values = λ n s l m. h.values n s (omega (arith, l)) m ∙ sym (input-signal (record { inputs = i; gates = [] }) s n (omega (arith, l)));
+  values = λ n s l m. h.values n s (omega (arith, l)) m ∙ sym (input-signal (record { inputs = i; gates = [] }) (code_at codes s) n (omega (arith, l)));
 }
 
 -- ---- the word of a gate
@@ -89,7 +58,7 @@ pub gate_bits : (table first second a b c d : ℕ) → first < 2 ^ 64 → second
     (s : ℕ) → s < 64 → bit (bit_or (bit_or (bit_or a b) c) d) s ≡ gate_value table (bit first s) (bit second s)
 gate_bits table first second a b c d lf ls ra rb rc rd s l =
     bit-or (bit_or (bit_or a b) c) d s ∙ ap (λ x. x || bit d s) (bit-or (bit_or a b) c s ∙ ap (λ x. x || bit c s) (bit-or a b s))
-    ∙ rw (ra s, rb s, rc s, rd s, bit-and (bit_not w64 first) (bit_not w64 second) s, bit-and (bit_not w64 first) second s, bit-and first (bit_not w64 second) s, bit-and first second s, bit-not first s lf l, bit-not second s ls l)
+    ∙ rw (ra s, rb s, rc s, rd s, bit-and (bit_not w64 first) (bit_not w64 second) s, bit-and (bit_not w64 first) second s, bit-and first (bit_not w64 second) s, bit-and first second s, bit-not w64 first s lf l, bit-not w64 second s ls l)
     (four (λ n. bit table n) (bit first s) (bit second s))
   where
     none : (x : Bool) → (x && false) ≡ false
@@ -112,21 +81,22 @@ gate_bits table first second a b c d lf ls ra rb rc rd s l =
 
 -- ---- one signal more
 
-pub one_more_signal : (list : GateList) (gate : Gate) (words : List ℕ) (word : ℕ) → AreSignals list words → gate.j < gate.k → gate.k < signal_count list → gate.table < 16 →
-    ((s : ℕ) → s < 64 → bit word s ≡ gate_value gate.table (bit (slice_index words gate.j) s) (bit (slice_index words gate.k) s)) → AreSignals (with_last list gate) (words ++ word ∷ [])
-one_more_signal list gate words word h lower earlier table is = record {
+pub one_more_signal : (codes : List ℕ) (list : GateList) (gate : Gate) (words : List ℕ) (word : ℕ) → AreSignals codes list words → gate.j < gate.k → gate.k < signal_count list → gate.table < 16 →
+    ((s : ℕ) → s < length codes → bit word s ≡ gate_value gate.table (bit (slice_index words gate.j) s) (bit (slice_index words gate.k) s)) → AreSignals codes (with_last list gate) (words ++ word ∷ [])
+one_more_signal codes list gate words word h lower earlier table is = record {
   some = h.some;
   few = h.few;
+  few_codes = h.few_codes;
   gates = one_more_gate list.inputs list.gates gate h.gates lower earlier table;
   one_each = omega (arith, length-append words (word ∷ []), length-append list.gates (gate ∷ []), h.one_each);
   values = λ n s l m. elim (cases_eq n (signal_count list)) [
     | inl same ↦ rw same (ap (λ w. bit w s) (get_or_at words word [] 0 (signal_count list) h.one_each) ∙ is s m
         ∙ ap (λ p. gate_value gate.table p (bit (slice_index words gate.k) s)) (h.values gate.j s (omega (arith, lower, earlier)) m)
-        ∙ ap (gate_value gate.table (value_at list gate.j s)) (h.values gate.k s earlier m)
-        ∙ sym (last-value list gate s))
+        ∙ ap (gate_value gate.table (value_at list gate.j (code_at codes s))) (h.values gate.k s earlier m)
+        ∙ sym (last-value list gate (code_at codes s)))
     | inr other ↦
         let before : n < signal_count list = omega (arith, l, length-append list.gates (gate ∷ [])) in
-        ap (λ w. bit w s) (get_or_append_left words (word ∷ []) 0 n (omega (arith, h.one_each))) ∙ h.values n s before m ∙ sym (extends-value list (with_last list gate) (extends_last list gate) n s before)
+        ap (λ w. bit w s) (get_or_append_left words (word ∷ []) 0 n (omega (arith, h.one_each))) ∙ h.values n s before m ∙ sym (extends-value list (with_last list gate) (extends_last list gate) n (code_at codes s) before)
   ];
 }
 
@@ -159,16 +129,16 @@ module _ (inputs : ℕ) (keys : List (ℕ × ℕ × ℕ)) (key : ℕ × ℕ × �
       ∙ ap (make (choice is_kept)) (position_or_len-map gate_of (same_gate (gate_of key)) keys)
       ∙ ap (λ gates. make gates (position_or_len (λ y. same_gate (gate_of key) (gate_of y)) keys)) (map-keys_with is_kept)
 
-  pub signals_kept : (words : List ℕ) → AreSignals (gates_of inputs keys) words → is_kept ≡ true → AreSignals (gates_of inputs keys_with) words
-  signals_kept words h there = subst (λ b. AreSignals (gates_of inputs (if b then keys else keys ++ key ∷ [])) words) (sym there) h
+  pub signals_kept : (codes words : List ℕ) → AreSignals codes (gates_of inputs keys) words → is_kept ≡ true → AreSignals codes (gates_of inputs keys_with) words
+  signals_kept codes words h there = subst (λ b. AreSignals codes (gates_of inputs (if b then keys else keys ++ key ∷ [])) words) (sym there) h
 
-  pub signals_with : (words : List ℕ) (word : ℕ) → AreSignals (gates_of inputs keys) words → key.0 < key.1 → key.1 < inputs + length keys → key.2 < 16 →
-      ((s : ℕ) → s < 64 → bit word s ≡ gate_value key.2 (bit (slice_index words key.0) s) (bit (slice_index words key.1) s)) →
-      is_kept ≡ false → AreSignals (gates_of inputs keys_with) (words ++ word ∷ [])
-  signals_with words word h lower earlier table is new =
-      subst (λ b. AreSignals (gates_of inputs (if b then keys else keys ++ key ∷ [])) (words ++ word ∷ [])) (sym new)
-      (subst (λ gates. AreSignals (record { inputs = inputs; gates = gates }) (words ++ word ∷ [])) (sym (map-append gate_of keys (key ∷ [])))
-      (one_more_signal (gates_of inputs keys) (gate_of key) words word h lower (omega (arith, length-map keys gate_of)) table is))
+  pub signals_with : (codes words : List ℕ) (word : ℕ) → AreSignals codes (gates_of inputs keys) words → key.0 < key.1 → key.1 < inputs + length keys → key.2 < 16 →
+      ((s : ℕ) → s < length codes → bit word s ≡ gate_value key.2 (bit (slice_index words key.0) s) (bit (slice_index words key.1) s)) →
+      is_kept ≡ false → AreSignals codes (gates_of inputs keys_with) (words ++ word ∷ [])
+  signals_with codes words word h lower earlier table is new =
+      subst (λ b. AreSignals codes (gates_of inputs (if b then keys else keys ++ key ∷ [])) (words ++ word ∷ [])) (sym new)
+      (subst (λ gates. AreSignals codes (record { inputs = inputs; gates = gates }) (words ++ word ∷ [])) (sym (map-append gate_of keys (key ∷ [])))
+      (one_more_signal codes (gates_of inputs keys) (gate_of key) words word h lower (omega (arith, length-map keys gate_of)) table is))
 
 -- an item, read with any default
 pub read_item : (xs : List ℕ) (i x : ℕ) → i < length xs → x ≡ slice_index_or xs i x → x ≡ slice_index xs i

@@ -1,6 +1,11 @@
 pub mod Square
 pub mod Columns
 pub mod First
+pub mod Serving
 pub mod Words
 pub mod Minterms
+pub mod Patterns
+pub mod Matching
+pub mod Least
+pub mod Bounds
 pub mod Laws

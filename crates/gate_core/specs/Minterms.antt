@@ -14,19 +14,19 @@ pub record IsMintermSignal (list : GateList) (s m : ℕ) : Type 0 where
   pub in_range : m < signal_count list
   pub value : (t : ℕ) → IsTrue (value_at list m t) ↔ SameBits list.inputs s t
 
--- each signal is the minterm of the scenario at its place
+-- each signal is the minterm of the code at its place
 abbrev pub AreMinterms : GateList → List ℕ → List ℕ → Type 0
 AreMinterms list [] [] = Unit {0}
 AreMinterms list [] (m ∷ ms) = ⊥
 AreMinterms list (s ∷ ss) [] = ⊥
 AreMinterms list (s ∷ ss) (m ∷ ms) = IsMintermSignal list s m × AreMinterms list ss ms
 
--- any two scenarios have different bits
+-- any two codes have different bits
 abbrev pub AllDiffer : ℕ → List ℕ → Type 0
 AllDiffer n [] = Unit {0}
 AllDiffer n (s ∷ ss) = AllByRecursion (λ t. SameBits n s t → ⊥) ss × AllDiffer n ss
 
--- a signal that can be joined with minterms: of scenarios that differ, at none of which it is 1
+-- a signal that can be joined with minterms: of codes that differ, at none of which it is 1
 pub record CanJoin (list : GateList) (signal : ℕ) (ss ms : List ℕ) : Type 0 where
   pub gates : IsGateList list
   pub in_range : signal < signal_count list
@@ -36,5 +36,5 @@ pub record CanJoin (list : GateList) (signal : ℕ) (ss ms : List ℕ) : Type 0 
 
 -- a signal that can be joined with minterms
 pub record CanJoinAll (list : GateList) (signal : ℕ) (ms : List ℕ) : Type 0 where
-  pub scenarios : List ℕ
-  pub can_join : CanJoin list signal scenarios ms
+  pub codes : List ℕ
+  pub can_join : CanJoin list signal codes ms

@@ -1,14 +1,15 @@
 -- The values of signals on the codes of all scenarios, and what a column asks for, as words with a bit for each scenario.
-use Rattle.std.specs.Prelude.{◌≡◌, ◌↔◌, ℕ, ◌^◌, ◌<◌, ◌≤◌, Bool, false, not, IsTrue, List, length, map, slice_index, slice_index_or}
+use Rattle.std.specs.Prelude.{◌≡◌, ◌↔◌, ℕ, ◌<◌, ◌≤◌, Bool, false, not, IsTrue, List, length, map, slice_index, slice_index_or}
+use Rattle.cpog_base.specs.declared.limits.TheConstants.{BIT_LIMIT, SCENARIO_LIMIT}
 use Rattle.cpog_base.specs.Column.{is_one, is_zero}
 use Rattle.gate_core.specs.Columns.{IsOpenColumn}
-use Rattle.gate_core.specs.First.{smaller_scenarios, has_fewer_zeros, sum_of_minterms}
+use Rattle.gate_core.specs.First.{code_at, smaller_codes, has_fewer_zeros, sum_of_minterms}
 use Rattle.cpog_defs.specs.declared.types.Bit3.{Bit3}
 use Rattle.cpog_defs.specs.declared.types.Bit3.TheVariants.{Zero, One, Free}
 use Rattle.cpog_defs.specs.declared.types.Gate.{Gate}
 use Rattle.cpog_defs.specs.declared.types.Ref.{Ref}
 use Rattle.cpog_defs.specs.declared.types.Ref.TheVariants.{Signal}
-use Rattle.cpog_defs.specs.Codes.{bit}
+use Rattle.cpog_defs.specs.Codes.{bit, AreCodes}
 use Rattle.cpog_defs.specs.Entries.{entry_at}
 use Rattle.cpog_defs.specs.Gates.{GateList, IsGateList, signal_count, signal_values, gate_value}
 
@@ -20,22 +21,28 @@ gate_of key = record { j = key.0; k = key.1; table = key.2 }
 abbrev pub gates_of : ℕ → List (ℕ × ℕ × ℕ) → GateList
 gates_of inputs keys = record { inputs = inputs; gates = map gate_of keys }
 
--- the value of a signal on the code of a scenario, which is its number
+-- the value of a signal on a word
 abbrev pub value_at : GateList → ℕ → ℕ → Bool
-value_at list signal s = slice_index_or (signal_values list s) signal false
+value_at list signal word = slice_index_or (signal_values list word) signal false
 
--- gates over 1 to 8 inputs, and for each signal a word of its values on the first 64 words
-pub record AreSignals (list : GateList) (words : List ℕ) : Type 0 where
+-- gates, and codes of their inputs
+pub record Signals : Type 0 where
+  pub codes : List ℕ
+  pub list : GateList
+
+-- gates over 1 to 8 inputs, at most 64 codes, and for each signal a word of its values on these codes
+pub record AreSignals (codes : List ℕ) (list : GateList) (words : List ℕ) : Type 0 where
   pub some : 1 ≤ list.inputs
-  pub few : list.inputs ≤ 8
+  pub few : list.inputs ≤ BIT_LIMIT
+  pub few_codes : length codes ≤ SCENARIO_LIMIT
   pub gates : IsGateList list
   pub one_each : length words ≡ signal_count list
-  pub values : (n s : ℕ) → n < signal_count list → s < 64 → bit (slice_index words n) s ≡ value_at list n s
+  pub values : (n s : ℕ) → n < signal_count list → s < length codes → bit (slice_index words n) s ≡ value_at list n (code_at codes s)
 
--- for each of so many inputs a word of its values on the first 64 words
-pub record AreInputWords (inputs : ℕ) (words : List ℕ) : Type 0 where
+-- for each of so many inputs a word of its values on the codes
+pub record AreInputWords (inputs : ℕ) (codes words : List ℕ) : Type 0 where
   pub one_each : length words ≡ inputs
-  pub values : (n s : ℕ) → n < inputs → s < 64 → bit (slice_index words n) s ≡ bit s n
+  pub values : (n s : ℕ) → n < inputs → s < length codes → bit (slice_index words n) s ≡ bit (code_at codes s) n
 
 -- whether an entry asks for this bit
 abbrev pub asks_for : Bit3 → Bit3 → Bool
@@ -48,16 +55,16 @@ pub record IsAskedBy (column : List Bit3) (ones zeros : ℕ) : Type 0 where
   pub ones_where : (s : ℕ) → bit ones s ≡ is_one (entry_at column s)
   pub zeros_where : (s : ℕ) → bit zeros s ≡ is_zero (entry_at column s)
 
--- an open column whose scenarios have different words over so many inputs
-pub record IsEncodable (inputs : ℕ) (column : List Bit3) : Type 0 where
-  pub is_open : IsOpenColumn (length column) column
-  pub few : length column ≤ 64
-  pub within : length column ≤ 2 ^ inputs
+-- at most 64 different codes over so many inputs, and an open column with an entry for each
+pub record IsEncodable (codes : List ℕ) (inputs : ℕ) (column : List Bit3) : Type 0 where
+  pub is_open : IsOpenColumn (length codes) column
+  pub few : length codes ≤ SCENARIO_LIMIT
+  pub codes_are : AreCodes inputs (length codes) codes
 
 -- the values in a word, or their complements where negated, are as asked
 abbrev pub IsMetBy : ℕ → ℕ → Bool → ℕ → Type 0
 IsMetBy ones zeros negated word =
-    (s : ℕ) → s < 64 → (IsTrue (bit ones s) → bit word s ≡ not negated) × (IsTrue (bit zeros s) → bit word s ≡ negated)
+    (s : ℕ) → (IsTrue (bit ones s) → bit word s ≡ not negated) × (IsTrue (bit zeros s) → bit word s ≡ negated)
 
 -- the first word that is as asked, complemented only where it isn't as it stands
 pub record IsFirstMet (ones zeros : ℕ) (words : List ℕ) (ref : Ref) : Type 0 where
@@ -96,7 +103,8 @@ pub record IsFirstApart (ones zeros : ℕ) (words : List ℕ) (gate : Gate) : Ty
   pub gate_with : IsFirstWith ones zeros words gate.j gate
   pub first : (j : ℕ) → j < gate.j → NoneWith ones zeros words j
 
--- the gates have the minterms of the smaller set of a column and those that join them, and the reference is to the last
-abbrev pub IsMintermsRef : GateList → List Bit3 → GateList → Ref → Type 0
-IsMintermsRef before column after ref =
-    (after ≡ (sum_of_minterms before (smaller_scenarios column)).gates) × (ref ≡ Signal (sum_of_minterms before (smaller_scenarios column)).signal (has_fewer_zeros column))
+-- the gates have the minterms of the codes of the smaller set of a column and those that join them, and the reference is to the last
+abbrev pub IsMintermsRef : List ℕ → GateList → List Bit3 → GateList → Ref → Type 0
+IsMintermsRef codes before column after ref =
+    let sum = sum_of_minterms before (smaller_codes codes column) in
+    (after ≡ sum.gates) × (ref ≡ Signal sum.signal (has_fewer_zeros column))

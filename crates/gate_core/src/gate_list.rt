@@ -2,7 +2,8 @@ ghost use Rattle.std.specs.Prelude.{◌≡◌, ◌+◌, ◌-◌, ◌<◌, ◌≤
 ghost use Rattle.cpog_defs.specs.Codes.{word_bits};
 ghost use Rattle.cpog_defs.specs.Gates.{IsGateList, signal_count, signal_values, gate_value, with_gates};
 
-use cpog_base::Memory;
+use cpog_base::bits::has_bit;
+use cpog_base::{BIT_LIMIT, Memory};
 use cpog_defs::types::Gate;
 use sqlite_items::Items;
 use std::alloc::Global;
@@ -18,20 +19,21 @@ pub struct GateList {
 
 impl Model for GateList {
     ghost use Rattle.std.specs.Prelude.{◌+◌, ◌<◌, ◌≤◌, ◌^◌, length};
+    ghost use Rattle.cpog_base.specs.declared.limits.TheConstants.{BIT_LIMIT};
     ghost use Rattle.cpog_defs.specs.Gates as lists;
 
     ghost Value = { lists.GateList };
 
     ghost view = { λ a. record { inputs = a.inputs; gates = a.gates } };
 
-    ghost invariant = { λ a. (1 ≤ a.inputs) × (a.inputs ≤ 8) × (a.inputs + length a.gates < 2 ^ 32) × lists.AreGatesFrom a.inputs a.gates };
+    ghost invariant = { λ a. (1 ≤ a.inputs) × (a.inputs ≤ BIT_LIMIT) × (a.inputs + length a.gates < 2 ^ 32) × lists.AreGatesFrom a.inputs a.gates };
 }
 
 impl GateList {
     /// No gate yet.
     pub fn new(alloc: Global, inputs: u8) -> GateList
         requires some { 1 ≤ inputs }
-        requires few { inputs ≤ 8 }
+        requires few { inputs ≤ BIT_LIMIT }
         ensures { result ≡ record { inputs = inputs; gates = [] } }
     {
         GateList {
@@ -43,7 +45,7 @@ impl GateList {
     /// These gates.
     pub(crate) fn from_vec(inputs: u8, gates: Vec<Gate>) -> GateList
         requires some { 1 ≤ inputs }
-        requires few { inputs ≤ 8 }
+        requires few { inputs ≤ BIT_LIMIT }
         requires fit { inputs + length gates.items < 2 ^ 32 }
         requires earlier { IsGateList (record { inputs = inputs; gates = gates.items }) }
         ensures { result ≡ record { inputs = inputs; gates = gates.items } }
@@ -89,7 +91,7 @@ impl GateList {
     pub fn inputs(&self) -> u8
         ensures inputs { result ≡ self.now.inputs }
         ensures some { 1 ≤ self.now.inputs }
-        ensures few { self.now.inputs ≤ 8 }
+        ensures few { self.now.inputs ≤ BIT_LIMIT }
     {
         self.inputs
     }
@@ -143,11 +145,11 @@ impl GateList {
 
 /// Writes as many bits of a word as there is place for, the lowest first.
 fn write_bits(word: u8, out: &mut [bool])
-    requires { length out.old ≤ 8 }
+    requires { length out.old ≤ BIT_LIMIT }
     ensures { out.new ≡ word_bits word (length out.old) }
 {
     for (i, bit) in out.iter_mut().enumerate() {
-        *bit = (word >> i) & 1 == 1;
+        *bit = has_bit(u64::from(word), i as u8);
     }
 }
 
@@ -155,5 +157,5 @@ fn write_bits(word: u8, out: &mut [bool])
 fn table_value(table: u8, p: bool, q: bool) -> bool
     ensures { result ≡ gate_value table p q }
 {
-    (table >> (2 * u8::from(p) + u8::from(q))) & 1 == 1
+    has_bit(u64::from(table), 2 * u8::from(p) + u8::from(q))
 }

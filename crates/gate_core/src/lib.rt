@@ -6,6 +6,7 @@
 //! exactly the first encoding that is defined, with a bound on its gates.
 #![tactic(auto)]
 
+mod codes;
 mod encoding;
 mod first;
 mod gate_list;
@@ -14,9 +15,13 @@ mod laws;
 #[cfg(test)]
 mod tests;
 
+pub use codes::{CodesFault, free_patterns, least_codes};
 pub use cpog_defs::types::{Gate, Ref};
 pub use encoding::Encoding;
 pub use first::{FirstEncoding, first_encode};
 pub use gate_list::GateList;
 pub use graph::ConditionalGraph;
-pub use laws::{first_encodings_agree, gate_signal, input_signal, signals_are_counted};
+pub use laws::{
+    agreeing_are_codes, first_encodings_agree, gate_signal, given_bits_may_be_left, input_signal,
+    least_codes_agree, open_codes_are_numbers, signals_are_counted,
+};

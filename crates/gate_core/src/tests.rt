@@ -1,12 +1,14 @@
-//! What no clause says: that the calls that take memory succeed where memory is there; and gates of first encodings that
-//! were made by hand.
+//! What no clause says: that the calls that take memory succeed where memory is there; and gates that were made by hand.
 
 ghost use Rattle.std.specs.Prelude.{◌≤◌, length, IfOk};
 ghost use Rattle.std.specs.List.{All};
 ghost use Rattle.gate_core.specs.Columns.{IsOpenColumn};
 
-use crate::{ConditionalGraph, FirstEncoding, Gate, GateList, Ref, first_encode};
-use cpog_base::{Bit3, Column, Memory, OpId, ScenId};
+use crate::{
+    CodesFault, ConditionalGraph, FirstEncoding, Gate, GateList, Ref, first_encode, free_patterns,
+    least_codes,
+};
+use cpog_base::{BIT_LIMIT, Bit3, Column, Memory, OpId, Pattern, SCENARIO_LIMIT, ScenId};
 use std::alloc::Global;
 
 #[test]
@@ -35,9 +37,16 @@ fn a_new_graph_has_no_condition_but_0(rt: HostRuntime) {
     assert!(rt; graph.arc(OpId(0), OpId(1)) == Ref::Const(false));
 }
 
+#[test]
+fn three_in_two_words_clash(rt: HostRuntime) {
+    let even = Pattern::new(2, 1, 0);
+    let fault = least_codes(rt.alloc(), &[even, even, even], 2).err();
+    assert!(rt; fault == Some(CodesFault::Clash(ScenId(2))));
+}
+
 /// The column of so many scenarios that a text writes, a character a scenario.
 fn column_of(n: u8, text: &str) -> Column
-    requires { n ≤ 64 }
+    requires { n ≤ SCENARIO_LIMIT }
 {
     let mut column = Column::new(n);
     for (s, b) in text.bytes().enumerate() {
@@ -55,7 +64,7 @@ fn column_of(n: u8, text: &str) -> Column
 
 /// The open columns among those that some texts write.
 fn columns_of(alloc: Global, n: u8, texts: &[&str]) -> Result<Vec<Column>, Memory>
-    requires { n ≤ 64 }
+    requires { n ≤ SCENARIO_LIMIT }
     ensures open { IfOk result (λ columns. All (IsOpenColumn n) columns.items) }
     ensures few { IfOk result (λ columns. length columns.items ≤ length texts.now) }
 {
@@ -69,71 +78,64 @@ fn columns_of(alloc: Global, n: u8, texts: &[&str]) -> Result<Vec<Column>, Memor
     Ok(columns)
 }
 
-fn signal(number: u32) -> Ref {
-    Ref::Signal {
-        number,
-        negated: false,
+/// The first encoding of the columns that texts write, on the least codes with these given bits.
+fn encoding_of(
+    alloc: Global,
+    given: &[Pattern],
+    bits: u8,
+    texts: &[&str],
+) -> Result<FirstEncoding, CodesFault>
+    requires some_bit { 1 ≤ bits }
+    requires few_bits { bits ≤ BIT_LIMIT }
+    requires few { length given.now ≤ SCENARIO_LIMIT }
+    requires few_texts { length texts.now ≤ 8 }
+{
+    let codes = match least_codes(alloc, given, bits) {
+        Ok(codes) => codes,
+        Err(fault) => return Err(fault),
+    };
+    let columns = match columns_of(alloc, codes.len() as u8, texts) {
+        Ok(columns) => columns,
+        Err(_) => return Err(CodesFault::Memory),
+    };
+    match first_encode(alloc, columns.as_slice(), codes.as_slice(), bits) {
+        Ok(encoding) => Ok(encoding),
+        Err(_) => Err(CodesFault::Memory),
     }
 }
 
-fn complement(number: u32) -> Ref {
-    Ref::Signal {
-        number,
-        negated: true,
-    }
+fn signal(number: u32, negated: bool) -> Ref {
+    Ref::Signal { number, negated }
 }
 
 fn gate(j: u32, k: u32, table: u8) -> Gate {
     Gate { j, k, table }
 }
 
-fn has(e: &FirstEncoding, gates: &[Gate], refs: &[Ref]) -> bool {
-    e.gates.gates() == gates && e.refs.as_slice() == refs
-}
-
+/// The code 0 is given to the last of three scenarios, so the others have 1 and 2.
 #[test]
-fn one_operation_in_each_of_three_scenarios(rt: HostRuntime) {
-    let columns = columns_of(rt.alloc(), 3, &["100", "010", "001"]).expect(&rt, "there is memory");
-    let e = first_encode(rt.alloc(), columns.as_slice(), 3, 2).expect(&rt, "there is memory");
-    assert!(rt; e.codes.as_slice() == [0, 1, 2].as_slice());
-    assert!(rt; has(&e, &[gate(0, 1, 1)], &[signal(2), signal(0), signal(1)],));
-}
-
-#[test]
-fn one_operation_in_each_of_four_scenarios(rt: HostRuntime) {
-    let columns = columns_of(rt.alloc(), 4, &["1000", "0100", "0010", "0001"]).expect(
-        &rt,
-        "there is memory",
-    );
-    let e = first_encode(rt.alloc(), columns.as_slice(), 4, 2).expect(&rt, "there is memory");
-    let gates = [gate(0, 1, 1), gate(0, 1, 4), gate(0, 1, 2), gate(0, 1, 8)];
-    assert!(rt; has(&e, &gates, &[signal(2), signal(3), signal(4), signal(5)],));
-}
-
-#[test]
-fn complements_and_an_equality(rt: HostRuntime) {
-    let columns = columns_of(rt.alloc(), 4, &["1100", "1010", "1001"]).expect(
-        &rt,
-        "there is memory",
-    );
-    let e = first_encode(rt.alloc(), columns.as_slice(), 4, 2).expect(&rt, "there is memory");
+fn gates_are_over_the_bits_of_codes(rt: HostRuntime) {
+    let free = Pattern::free(2);
+    let e = encoding_of(
+        rt.alloc(),
+        &[free, free, Pattern::new(2, 3, 0)],
+        2,
+        &["110", "001", "101"],
+    )
+    .expect(&rt, "there is memory");
+    assert!(rt; e.codes.as_slice() == [1, 2, 0].as_slice());
+    assert!(rt; e.gates.gates() == [gate(0, 1, 6)].as_slice());
     assert!(rt;
-        has(
-            &e,
-            &[gate(0, 1, 9)],
-            &[complement(1), complement(0), signal(2)],
-        )
+        e.refs.as_slice() == [signal(2, false), signal(2, true), signal(1, true)].as_slice()
     );
 }
 
 #[test]
 fn minterms_are_joined_and_shared(rt: HostRuntime) {
     // The parity of three bits, the complement of a minterm in it, and two zeros that no two inputs tell apart.
-    let columns = columns_of(rt.alloc(), 8, &["01101001", "10111111", "11101011"]).expect(
-        &rt,
-        "there is memory",
-    );
-    let e = first_encode(rt.alloc(), columns.as_slice(), 8, 3).expect(&rt, "there is memory");
+    let given = free_patterns(rt.alloc(), 8, 3).expect(&rt, "there is memory");
+    let texts = ["01101001", "10111111", "11101011"];
+    let e = encoding_of(rt.alloc(), given.as_slice(), 3, &texts).expect(&rt, "there is memory");
     let gates = [
         gate(0, 1, 4),
         gate(2, 3, 2),
@@ -150,5 +152,8 @@ fn minterms_are_joined_and_shared(rt: HostRuntime) {
         gate(2, 3, 8),
         gate(14, 15, 14),
     ];
-    assert!(rt; has(&e, &gates, &[signal(13), complement(4), complement(16)],));
+    assert!(rt; e.gates.gates() == gates.as_slice());
+    assert!(rt;
+        e.refs.as_slice() == [signal(13, false), signal(4, true), signal(16, true)].as_slice()
+    );
 }

@@ -1,4 +1,3 @@
-pub mod GraphLemmas
 pub mod EncodesLemmas
 pub mod BitLemmas
 pub mod AssignmentLemmas

@@ -1,4 +1,3 @@
 pub mod Bits
 pub mod Assignments
-pub mod References
 pub mod Laws

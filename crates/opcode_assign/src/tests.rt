@@ -5,12 +5,13 @@ ghost use Rattle.cpog_defs.specs.Orders.{IsOrderOf};
 
 use super::*;
 use cpog_base::{Memory, OpId, OpSet, Order, empty_sets};
-use gate_core::{Gate, Ref};
+use gate_core::{Gate, Ref, free_patterns};
+use order_reduce::CoveredOrder;
 use std::alloc::Global;
 use std::test::Fail;
 
 /// These operations of four, in any order.
-fn together(alloc: Global, u: OpId, v: OpId, w: OpId) -> Result<Order, Memory>
+fn together(alloc: Global, u: OpId, v: OpId, w: OpId) -> Result<CoveredOrder, Memory>
     requires first { u.0 < 4 }
     requires second { v.0 < 4 }
     requires third { w.0 < 4 }
@@ -21,7 +22,7 @@ fn together(alloc: Global, u: OpId, v: OpId, w: OpId) -> Result<Order, Memory>
     ops.insert(v);
     ops.insert(w);
     let before = empty_sets(alloc, 4)?;
-    Ok(Order::from_sets(ops, before))
+    CoveredOrder::new(alloc, Order::from_sets(ops, before))
 }
 
 /// The operations are there as 101, 011, 100 and 111 in three scenarios: the first where `x0` is 0, the second where one
@@ -32,7 +33,11 @@ fn three_scenarios_take_one_gate(rt: HostRuntime) -> Result<(), Fail> {
     orders.push(together(rt.alloc(), OpId(0), OpId(2), OpId(3))?)?;
     orders.push(together(rt.alloc(), OpId(1), OpId(3), OpId(3))?)?;
     orders.push(together(rt.alloc(), OpId(0), OpId(1), OpId(3))?)?;
-    let encoding = first_assign(rt.alloc(), &orders, default_bits(3))?;
+    let given = free_patterns(rt.alloc(), 3, default_bits(3, 1))?;
+    let encoding = first_assign(rt.alloc(), &orders, &given, default_bits(3, 1)).expect(
+        &rt,
+        "there is memory",
+    );
     assert_eq!(rt; encoding.codes(), [0, 1, 2].as_slice());
     let exclusive_or = Gate {
         j: 0,

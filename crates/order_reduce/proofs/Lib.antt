@@ -3,4 +3,4 @@ pub mod Mantel
 pub mod PairCount
 pub mod PairWalks
 pub mod PairLemmas
-pub mod ChainLemmas
+pub mod ScenarioLemmas

@@ -4,8 +4,8 @@ use Rattle.std.specs.FinSet as set
 use Rattle.std.specs.Cmp.{nat_cmp_total}
 use Rattle.cpog_defs.specs.declared.types.OpId.{OpId}
 use Rattle.cpog_defs.specs.Orders.{Set, Order, any_below, is_before, is_covered, each_below, arc_of, covering_pairs}
-use Rattle.order_reduce.specs.Rows.{row_has}
-use Rattle.order_reduce.specs.Rows.{pairs_from}
+use Rattle.order_reduce.specs.Covered.{AreCovered, pairs_from}
+use Rattle.cpog_base.specs.Rows.{row_has}
 
 flip : (x y : Bool) → (x || y) ≡ (y || x)
 flip true true = refl
@@ -43,11 +43,11 @@ pub each_below-same : {A : Type 0} (n : ℕ) (f g : ℕ → List A) → ((i : �
 each_below-same zero f g h = refl
 each_below-same (suc n) f g h = ap₂ (λ x y. x ++ y) (each_below-same n f g (λ i l. h i (omega arith))) (h n (omega arith))
 
-pub all_pairs : (o : Order) (rows : List Set) → length rows ≡ o.count → ((u v : ℕ) → v < o.count → row_has rows u v ≡ is_covered o u v) →
-    each_below (pairs_from rows (length rows)) o.count ≡ covering_pairs o
-all_pairs o rows size h =
-    each_below-same o.count (pairs_from rows (length rows)) (λ u. each_below (λ v. if is_covered o u v then arc_of u v ∷ [] else []) o.count)
-    (λ u l. rw size (each_below-same o.count _ _ (λ v m. ap (λ b. if b then arc_of u v ∷ [] else []) (h u v m))))
+-- the pairs that are gathered up to the count are the covering pairs
+pub listed_pairs : (o : Order) (rows : List Set) (n : ℕ) (pairs : List (OpId × OpId)) → AreCovered o rows → n ≡ o.count → pairs ≡ each_below (pairs_from rows (length rows)) n → pairs ≡ covering_pairs o
+listed_pairs o rows n pairs are at_end is =
+    is ∙ rw at_end (each_below-same o.count (pairs_from rows (length rows)) (λ u. each_below (λ v. if is_covered o u v then arc_of u v ∷ [] else []) o.count)
+    (λ u l. rw are.one_each (each_below-same o.count _ _ (λ v m. ap (λ b. if b then arc_of u v ∷ [] else []) (are.covered u v m)))))
 
 pub arcs-more : (old new : List (OpId × OpId)) (rows : List Set) (n u : ℕ) → new ≡ old ++ pairs_from rows n u → row_has rows u n ≡ true →
     new ++ arc_of u n ∷ [] ≡ old ++ pairs_from rows (n + 1) u

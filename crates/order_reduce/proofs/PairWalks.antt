@@ -9,7 +9,7 @@ use Rattle.cpog_defs.specs.Orders.{Order, IsOrder, is_before, is_covered, each_b
 use Rattle.cpog_defs.proofs.WalkLemmas.{replaced, covered_walk, walk_covered}
 use Rattle.order_reduce.proofs.CoveredLemmas.{covered_tells, covered_from}
 
-from_each : {A : Type 0} (n : ℕ) (f : ℕ → List A) (x : A) → Contains (each_below f n) x → (i : ℕ) × (i < n) × Contains (f i) x
+pub from_each : {A : Type 0} (n : ℕ) (f : ℕ → List A) (x : A) → Contains (each_below f n) x → (i : ℕ) × (i < n) × Contains (f i) x
 from_each zero f x h = absurd (omega (arith, h.1))
 from_each (suc n) f x h = elim (Contains-append_cases (each_below f n) (f n) x h) [
   | inl a ↦ let r = from_each n f x a in (r.0, omega (arith, r.1), r.2)
@@ -23,7 +23,7 @@ to_each (suc n) f x i l h = elim (cases_eq i n) [
   | inr other ↦ Contains-append_left (each_below f n) (f n) x (to_each n f x i (omega arith) h)
 ]
 
-from_if : {A : Type 0} (b : Bool) (y x : A) → Contains (if b then y ∷ [] else []) x → IsTrue b × (y ≡ x)
+pub from_if : {A : Type 0} (b : Bool) (y x : A) → Contains (if b then y ∷ [] else []) x → IsTrue b × (y ≡ x)
 from_if true y x (zero, l, e) = (refl, e)
 from_if true y x (suc k, l, e) = absurd (omega arith)
 from_if false y x (k, l, e) = absurd (omega arith)

@@ -1,6 +1,7 @@
 -- What each kind of tree means, and how valuations are numbered.
 use Rattle.std.specs.Prelude.{◌≡◌, ◌≢◌, ℕ, ◌<◌, Bool, not, List, [], ◌∷◌, map}
 use Rattle.std.specs.List.{list_all, list_any, flat_map}
+use Rattle.cpog_base.specs.declared.limits.TheConstants.{PARAM_LIMIT}
 use Rattle.cpog_defs.specs.Codes.{bit}
 use Rattle.pg_algebra.specs.Conditions.{Valuation, value, params_of}
 use Rattle.pg_algebra.specs.Graphs as graph
@@ -37,7 +38,7 @@ pub record GraphsOfExpressions : Type 0 where
 pub record ValuationsAreNumbered : Type 0 where
   pub flip_one : (n k : ℕ) → bit (flip n k) k ≡ not (bit n k)
   pub flip_others : (n k j : ℕ) → j ≢ k → bit (flip n k) j ≡ bit n j
-  pub flip_below : (n k : ℕ) → k < 6 → n < 64 → flip n k < 64
+  pub flip_below : (n k : ℕ) → k < PARAM_LIMIT → n < 64 → flip n k < 64
   pub set_one : (n k : ℕ) (b : Bool) → bit (with_param n k b) k ≡ b
   pub set_others : (n k j : ℕ) (b : Bool) → j ≢ k → bit (with_param n k b) j ≡ bit n j
-  pub set_below : (n k : ℕ) (b : Bool) → k < 6 → n < 64 → with_param n k b < 64
+  pub set_below : (n k : ℕ) (b : Bool) → k < PARAM_LIMIT → n < 64 → with_param n k b < 64

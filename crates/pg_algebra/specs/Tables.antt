@@ -1,4 +1,5 @@
--- The valuations of six parameters as numbers: bit k of a valuation is the bit of parameter k. Bit n of a table is the value under valuation n.
+-- The valuations of six parameters, of which there are 2 ^ 6 = 64, as numbers: bit k of a valuation is the bit of parameter k. Bit n of a table is
+-- the value under valuation n.
 use Rattle.std.specs.Prelude.{◌≡◌, ◌≢◌, ℕ, ◌<◌, ◌^◌, Bool, true, false, bit_xor, if◌then◌else◌}
 use Rattle.cpog_defs.specs.Codes.{bit}
 

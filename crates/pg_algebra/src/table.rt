@@ -5,13 +5,15 @@ ghost use Rattle.std.specs.Bool.{MatchBool};
 ghost use Rattle.cpog_defs.specs.Codes.{bit};
 ghost use Rattle.pg_algebra.specs.Tables.{with_param, Changes, Stays};
 
+use cpog_base::PARAM_LIMIT;
+
 /// The values of a condition: bit n is its value under valuation n.
 #[derive(Clone, Copy, Debug, PartialEq, Eq)]
 pub struct Table(pub u64);
 
 /// How far apart two valuations stand that differ in parameter k alone.
 fn distance(k: u8) -> u32
-    requires { k < 6 }
+    requires { k < PARAM_LIMIT }
     ensures weight { result ≡ 2 ^ k }
     ensures bound { result < 64 }
 {
@@ -28,7 +30,7 @@ impl Table {
 
     /// The table of parameter k.
     pub fn of_param(k: u8) -> Table
-        requires { k < 6 }
+        requires { k < PARAM_LIMIT }
         ensures { (n : ℕ) → n < 64 → bit result.0 n ≡ bit n k }
     {
         match k {
@@ -64,7 +66,7 @@ impl Table {
 
     /// Whether some valuation's value changes with parameter k.
     pub fn depends(&self, k: u8) -> bool
-        requires { k < 6 }
+        requires { k < PARAM_LIMIT }
         ensures { MatchBool result (Changes self.now.0 k) (Stays self.now.0 k) }
     {
         // where parameter k is 0, this has the value that it has where k is 1
@@ -75,7 +77,7 @@ impl Table {
 
     /// The table with parameter k set or not: under each valuation, the value under the one where it is so.
     pub fn fix(&self, k: u8, set: bool) -> Table
-        requires { k < 6 }
+        requires { k < PARAM_LIMIT }
         ensures { (n : ℕ) → n < 64 → bit result.0 n ≡ bit self.now.0 (with_param n k set) }
     {
         if set {

@@ -6,12 +6,12 @@ ghost use Rattle.cpog_defs.specs.Codes.{bit};
 ghost use Rattle.pg_algebra.specs.Conditions.{value, valuation, params_of};
 
 use crate::{Cond, Table};
-use cpog_base::Names;
+use cpog_base::{Names, PARAM_LIMIT};
 
 /// The table that is 1 where each of the conditions is. `None` where one of them names another parameter.
 #[cycle(table)]
 fn table_of_all(members: &[Cond], params: &Names) -> Option<Table>
-    requires { length params.now ≤ 6 }
+    requires { length params.now ≤ PARAM_LIMIT }
     ensures known { is_some result ≡ list_all (λ c. list_all (has_text params.now) (params_of c)) members.now }
     ensures table { IfSome result (λ t. (n : ℕ) → n < 64 → bit t.0 n ≡ list_all (value (valuation params.now n)) members.now) }
 {
@@ -25,7 +25,7 @@ fn table_of_all(members: &[Cond], params: &Names) -> Option<Table>
 /// The table that is 1 where one of the conditions is. `None` where one of them names another parameter.
 #[cycle(table)]
 fn table_of_any(members: &[Cond], params: &Names) -> Option<Table>
-    requires { length params.now ≤ 6 }
+    requires { length params.now ≤ PARAM_LIMIT }
     ensures known { is_some result ≡ list_all (λ c. list_all (has_text params.now) (params_of c)) members.now }
     ensures table { IfSome result (λ t. (n : ℕ) → n < 64 → bit t.0 n ≡ list_any (value (valuation params.now n)) members.now) }
 {
@@ -39,7 +39,7 @@ fn table_of_any(members: &[Cond], params: &Names) -> Option<Table>
 /// The values of a condition under all valuations of these parameters. `None` where it names another parameter.
 #[cycle(table)]
 pub fn table_of(cond: &Cond, params: &Names) -> Option<Table>
-    requires { length params.now ≤ 6 }
+    requires { length params.now ≤ PARAM_LIMIT }
     ensures known { is_some result ≡ list_all (has_text params.now) (params_of cond.now) }
     ensures table { IfSome result (λ t. (n : ℕ) → n < 64 → bit t.0 n ≡ value (valuation params.now n) cond.now) }
 {

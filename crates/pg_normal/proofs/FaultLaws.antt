@@ -3,7 +3,7 @@ use Rattle.std.specs.Prelude.{◌≡◌, refl, List, [], Some}
 use Rattle.std.proofs.Common.{◌∙◌, sym, subst}
 use Rattle.std.proofs.lemmas.Option.{none-some, same_Some}
 use Rattle.pg_text.specs.Contents.{Contents}
-use Rattle.pg_normal.specs.declared.listing.Normal.{Normal}
+use Rattle.pg_normal.specs.declared.normal.Normal.{Normal}
 use Rattle.pg_normal.specs.declared.naming.NameFault.{NameFault}
 use Rattle.pg_normal.specs.declared.naming.NameFault.TheVariants as fault
 use Rattle.pg_normal.specs.Naming.{name_faults, first, IsFirst, IsNameFault}

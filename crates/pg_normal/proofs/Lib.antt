@@ -17,5 +17,8 @@ pub mod StatementLemmas
 pub mod LineLemmas
 pub mod TextLaws
 pub mod FaultLaws
-pub mod BoundLemmas
+pub mod BindingLemmas
 pub mod UnitedLemmas
+pub mod StatedLemmas
+pub mod OpenLemmas
+pub mod DenotingLemmas

@@ -1,139 +1,132 @@
--- The lines of a file's forms, statement by statement.
-use Rattle.std.specs.Prelude.{◌≡◌, refl, ℕ, ◌<◌, ◌≤◌, ◌+◌, Bool, List, [], ◌∷◌, ◌++◌, length, slice_get, Some, codes}
+-- The lines of a file's forms, form by form.
+use Rattle.std.specs.Prelude.{◌≡◌, refl, ℕ, ◌<◌, ◌≤◌, ◌+◌, List, [], ◌∷◌, ◌++◌, map, length, slice_get, Option, Some, codes}
 use Rattle.std.specs.Option.{IsSomeAnd}
-use Rattle.std.proofs.Common.{ap, ap₂, ◌∙◌, sym, subst, drop, get_or, arith, inl, inr, append_assoc, append-nil}
-use Rattle.std.proofs.lemmas.Bool.{cases_lt}
+use Rattle.std.proofs.Common.{ap, ap₂, ◌∙◌, sym, subst, drop, arith, slice_index_or, append_assoc, append-nil, length-append}
 use Rattle.std.proofs.lemmas.Grind.{flat_map-append}
 use Rattle.std.proofs.lemmas.List.{drop_all}
-use Rattle.std.proofs.lemmas.List.Concat.{flat_map-cons}
-use Rattle.std.proofs.lemmas.Option.{slice_get-get_or}
+use Rattle.std.proofs.lemmas.Option.{slice_get_within}
 use Rattle.line_text.specs.Lines.{text_of}
-use Rattle.pg_algebra.specs.declared.expr.Expr.{Expr}
 use Rattle.pg_text.specs.declared.statement.Statement.{Statement}
 use Rattle.pg_text.specs.declared.statement.Statement.TheVariants as statement
 use Rattle.pg_text.specs.declared.statement.Numbered.{Numbered}
 use Rattle.pg_text.specs.Contents.{Contents}
-use Rattle.pg_text.specs.Writing.{with_text}
-use Rattle.pg_normal.specs.declared.listing.Normal.{Normal}
+use Rattle.pg_normal.specs.declared.normal.Normal.{Normal}
+use Rattle.pg_normal.specs.declared.normal.Origin.{Origin}
 use Rattle.pg_normal.specs.Forms.{Form}
-use Rattle.pg_normal.specs.Normals.{Before, none_before, with_statement, params_in, BeginsWithNormal, StatementNormals, AreNormals, AreNormalsOf}
-use Rattle.pg_normal.specs.Writing.{form_text}
-use Rattle.pg_normal.specs.Listing.{params_lines, definition_text, first_line, statement_lines, normal_lines, normal_text}
+use Rattle.pg_normal.specs.Normals.{params_in, origin, origins_from, AreNormalsOf}
+use Rattle.pg_normal.specs.Listing.{params_lines, form_lines, normal_lines, normal_text}
 use Rattle.pg_normal.proofs.NamingLemmas.{next}
-use Rattle.pg_normal.proofs.ListingLemmas.{line_at}
-
--- what is written before line i with the forms before a place, and that the lines from there complete the text
-pub record Written (f : Contents) (xs : List Normal) (i place : ℕ) (out : List ℕ) : Type 0 where
-  pub before : Before
-  pub forms : AreNormals (params_in f) before (drop i f.statements) (drop place xs)
-  pub whole : normal_text f xs ≡ out ++ text_of (normal_lines f.operations (params_in f) (drop i f.statements) (drop place xs))
-  pub behind : place ≤ i
+use Rattle.pg_normal.proofs.ListingLemmas.{origin_of}
 
 abbrev ended : List ℕ → List ℕ
 ended l = l ++ 10 ∷ []
 
-pub written_first : (f : Contents) (xs : List Normal) (params : List (List ℕ)) (out : List ℕ) → AreNormalsOf f xs → params ≡ params_in f → out ≡ text_of (params_lines params) → Written f xs 0 0 out
-written_first f xs params out are same is = record {
-  before = none_before;
-  forms = are.forms;
-  whole = flat_map-append ended (params_lines (params_in f)) (normal_lines f.operations (params_in f) f.statements xs)
-      ∙ ap (λ t. t ++ text_of (normal_lines f.operations (params_in f) f.statements xs)) (ap (λ ps. text_of (params_lines ps)) (sym same) ∙ sym is);
-  behind = omega arith;
-}
-
-pub written_last : (f : Contents) (xs : List Normal) (i place : ℕ) (out : List ℕ) → Written f xs i place out → length f.statements ≤ i → out ≡ normal_text f xs
-written_last f xs i place out w le = sym (w.whole ∙ ap (λ ss. out ++ text_of (normal_lines f.operations (params_in f) ss (drop place xs))) (drop_all i f.statements le) ∙ append-nil out)
-
-heads : {X : Type 0} (a b : X) (xs ys : List X) → a ∷ xs ≡ b ∷ ys → (a ≡ b) × (xs ≡ ys)
+pub heads : {X : Type 0} (a b : X) (xs ys : List X) → a ∷ xs ≡ b ∷ ys → (a ≡ b) × (xs ≡ ys)
 heads a b xs ys h = (let e : a ≡ b = cc in e, let e : xs ≡ ys = cc in e)
 
--- the form at hand, and the rest
-next_form : (xs : List Normal) (k : ℕ) (y : Normal) (ys : List Normal) → drop k xs ≡ y ∷ ys → (k < length xs) × (slice_get xs k ≡ Some y) × (drop (k + 1) xs ≡ ys)
-next_form xs k y ys h = elim (cases_lt k (length xs)) [
-  | inl lt ↦ (lt, slice_get-get_or xs k y lt ∙ ap Some (both lt).0, (both lt).1)
-  | inr past ↦ let e = ap length (sym h ∙ drop_all k xs past) in absurd (omega (arith, e))
-]
-  where
-    both : k < length xs → (get_or xs k y ≡ y) × (drop (k + 1) xs ≡ ys)
-    both lt = heads (get_or xs k y) y (drop (k + 1) xs) ys (sym (next xs k (get_or xs k y) y lt refl) ∙ h)
+-- ---- the statement of a form
 
-line_added : (out line middle new rest : List ℕ) → middle ≡ out ++ line → new ≡ middle ++ 10 ∷ [] → out ++ ((line ++ 10 ∷ []) ++ rest) ≡ new ++ rest
-line_added out line middle new rest put ends = sym (append_assoc out (line ++ 10 ∷ []) rest) ∙ ap (λ t. t ++ rest) (sym (append_assoc out line (10 ∷ [])) ∙ ap ended (sym put) ∙ sym ends)
+-- the statement of the first form that is left, those before it and behind it, and the lines of all that are left
+pub record Next (f : Contents) (x : Normal) (rest : List Normal) (lines : List (List ℕ)) : Type 0 where
+  pub before : List Numbered
+  pub here : Numbered
+  pub behind : List Numbered
+  pub statements : f.statements ≡ before ++ here ∷ behind
+  pub place : x.origin.statement ≡ length before
+  pub lines_are : lines ≡ form_lines f.operations (params_in f) here.statement x.form ++ normal_lines f.operations (params_in f) behind rest
+  pub origins : map origin_of rest ≡ origins_from (length before + 1) behind
 
-pub written_same : (f : Contents) (xs : List Normal) (i place next : ℕ) (out new : List ℕ) → next ≡ place → new ≡ out → Written f xs i place out → Written f xs i next new
-written_same f xs i place next out new same is w = subst (λ p. Written f xs i p new) (sym same) (subst (Written f xs i place) (sym is) w)
+module _ (f : Contents) (x : Normal) (rest : List Normal) where
+  abbrev lines_of_rest : List Numbered → List (List ℕ)
+  lines_of_rest ss = normal_lines f.operations (params_in f) ss (x ∷ rest)
 
-module _ (f : Contents) (xs : List Normal) (i place : ℕ) (out : List ℕ) (w : Written f xs i place out) (s : Statement) (at_s : IsSomeAnd (slice_get f.statements i) (λ n. s ≡ n.statement)) where
-  abbrev rest_forms : List Normal → Type 0
-  rest_forms = AreNormals (params_in f) (with_statement (params_in f) w.before s) (drop (i + 1) f.statements)
+  abbrev Follows : List Numbered → Type 0
+  Follows left = (before : List Numbered) → f.statements ≡ before ++ left → x.origin ∷ map origin_of rest ≡ origins_from (length before) left → Next f x rest (lines_of_rest left)
 
-  abbrev rest_lines : List Normal → List (List ℕ)
-  rest_lines = normal_lines f.operations (params_in f) (drop (i + 1) f.statements)
+  one_later : (before : List Numbered) (s : Numbered) → length before + 1 ≡ length (before ++ s ∷ [])
+  one_later before s = sym (length-append before (s ∷ []))
 
-  line : (n : Numbered) × (s ≡ n.statement) × (drop i f.statements ≡ n ∷ drop (i + 1) f.statements)
-  line = line_at f.statements i s at_s
+  follows_from : (n : ℕ) (s : Statement) (left : List Numbered) → Follows left → Follows (record { line = n; statement = s } ∷ left)
+  follows_from n (statement.Params ws) left later before is origins =
+      let s : Numbered = record { line = n; statement = statement.Params ws } in
+      later (before ++ s ∷ []) (is ∙ sym (append_assoc before (s ∷ []) left)) (origins ∙ ap (λ k. origins_from k left) (one_later before s))
+  follows_from n (statement.Graph w e) left later before is origins =
+      let both = heads _ _ _ _ origins in
+      record { before = before; here = record { line = n; statement = statement.Graph w e }; behind = left; statements = is; place = ap (λ o. o.statement) both.0; lines_are = refl; origins = both.1 }
+  follows_from n (statement.Scenario w e bs) left later before is origins =
+      let both = heads _ _ _ _ origins in
+      record { before = before; here = record { line = n; statement = statement.Scenario w e bs }; behind = left; statements = is; place = ap (λ o. o.statement) both.0; lines_are = refl; origins = both.1 }
 
-  forms_here : StatementNormals (params_in f) w.before s rest_forms (drop place xs)
-  forms_here = subst (λ t. StatementNormals (params_in f) w.before t (AreNormals (params_in f) (with_statement (params_in f) w.before t) (drop (i + 1) f.statements)) (drop place xs)) (sym line.1)
-      (subst (λ ss. AreNormals (params_in f) w.before ss (drop place xs)) line.2 w.forms)
+  next_statement : (left : List Numbered) → Follows left
+  next_statement [] before is origins = let e = ap length origins in absurd (omega (arith, e))
+  next_statement (s ∷ left) before is origins = follows_from s.line s.statement left (next_statement left) before is origins
 
-  whole_here : normal_text f xs ≡ out ++ text_of (statement_lines f.operations (params_in f) s rest_lines (drop place xs))
-  whole_here = w.whole ∙ ap (λ ss. out ++ text_of (normal_lines f.operations (params_in f) ss (drop place xs))) line.2
-      ∙ ap (λ t. out ++ text_of (statement_lines f.operations (params_in f) t rest_lines (drop place xs))) (sym line.1)
+middle_get : (before behind : List Numbered) (s : Numbered) → slice_get (before ++ s ∷ behind) (length before) ≡ Some s
+middle_get [] behind s = refl
+middle_get (t ∷ before) behind s = middle_get before behind s
 
-  -- the first of the forms that are left goes into a line
-  module _ (e : Expr) (bindings : List (List ℕ × Bool)) (b : BeginsWithNormal (params_in f) w.before e bindings (drop place xs) rest_forms) where
-    next_is : (place < length xs) × (slice_get xs place ≡ Some b.one) × (drop (place + 1) xs ≡ b.more)
-    next_is = next_form xs place b.one b.more b.whole
+-- ---- what is written
 
-    form_is : (form : Form) → IsSomeAnd (slice_get xs place) (λ x. form ≡ x.form) → form ≡ b.one.form
-    form_is form at = subst (λ o. IsSomeAnd o (λ x. form ≡ x.form)) next_is.1 at
+-- what is written before these forms, and that their lines complete the text
+pub record Written (f : Contents) (all left : List Normal) (out : List ℕ) : Type 0 where
+  pub before : List Numbered
+  pub behind : List Numbered
+  pub statements : f.statements ≡ before ++ behind
+  pub origins : map origin_of left ≡ origins_from (length before) behind
+  pub whole : normal_text f all ≡ out ++ text_of (normal_lines f.operations (params_in f) behind left)
 
-    with_line : (line_of : Normal → List ℕ) (middle new : List ℕ) → statement_lines f.operations (params_in f) s rest_lines (drop place xs) ≡ first_line line_of rest_lines (drop place xs)
-        → middle ≡ out ++ line_of b.one → new ≡ middle ++ 10 ∷ [] → Written f xs (i + 1) (place + 1) new
-    with_line line_of middle new is put ends = record {
-      before = with_statement (params_in f) w.before s;
-      forms = subst rest_forms (sym next_is.2) b.rest;
-      whole = whole_here ∙ ap (λ ls. out ++ text_of ls) is ∙ ap (λ ys. out ++ text_of (first_line line_of rest_lines ys)) b.whole
-          ∙ ap (λ t. out ++ t) (flat_map-cons ended (line_of b.one) (rest_lines b.more))
-          ∙ line_added out (line_of b.one) middle new (text_of (rest_lines b.more)) put ends
-          ∙ ap (λ ys. new ++ text_of (rest_lines ys)) (sym next_is.2);
-      behind = (let h = w.behind in omega (arith, h));
-    }
+pub written_first : (f : Contents) (xs : List Normal) (params : List (List ℕ)) (out : List ℕ) → AreNormalsOf f xs → params ≡ params_in f → out ≡ text_of (params_lines params) → Written f xs xs out
+written_first f xs params out are same is = record {
+  before = [];
+  behind = f.statements;
+  statements = refl;
+  origins = are.origins;
+  whole = flat_map-append ended (params_lines (params_in f)) (normal_lines f.operations (params_in f) f.statements xs)
+      ∙ ap (λ t. t ++ text_of (normal_lines f.operations (params_in f) f.statements xs)) (ap (λ ps. text_of (params_lines ps)) (sym same) ∙ sym is);
+}
 
-module _ (f : Contents) (xs : List Normal) (i place : ℕ) (out : List ℕ) (w : Written f xs i place out) where
-  module _ (names : List (List ℕ)) (at_s : IsSomeAnd (slice_get f.statements i) (λ n. statement.Params names ≡ n.statement)) where
-    pub written_params : Written f xs (i + 1) place out
-    written_params = record {
-      before = w.before;
-      forms = forms_here f xs i place out w (statement.Params names) at_s;
-      whole = whole_here f xs i place out w (statement.Params names) at_s;
-      behind = (let h = w.behind in omega (arith, h));
-    }
+no_lines_from : (names params : List (List ℕ)) (line : ℕ) (s : Statement) (ss : List Numbered) → normal_lines names params ss [] ≡ [] → normal_lines names params (record { line = line; statement = s } ∷ ss) [] ≡ []
+no_lines_from names params line (statement.Params ws) ss none = none
+no_lines_from names params line (statement.Graph w e) ss none = refl
+no_lines_from names params line (statement.Scenario w e bs) ss none = refl
 
-  module _ (name : List ℕ) (e : Expr) (at_s : IsSomeAnd (slice_get f.statements i) (λ n. statement.Graph name e ≡ n.statement)) where
-    pub graph_within : place < length xs
-    graph_within = (next_is f xs i place out w (statement.Graph name e) at_s e [] (forms_here f xs i place out w (statement.Graph name e) at_s)).0
+no_lines : (names params : List (List ℕ)) (ss : List Numbered) → normal_lines names params ss [] ≡ []
+no_lines names params [] = refl
+no_lines names params (s ∷ ss) = no_lines_from names params s.line s.statement ss (no_lines names params ss)
 
-    pub written_graph : (form : Form) (names params : List (List ℕ)) (middle new : List ℕ) → IsSomeAnd (slice_get xs place) (λ x. form ≡ x.form) → names ≡ f.operations → params ≡ params_in f
-        → middle ≡ out ++ definition_text (codes "graph ") name (form_text form names params) → new ≡ middle ++ 10 ∷ [] → Written f xs (i + 1) (place + 1) new
-    written_graph form names params middle new at names_are params_are put ends =
-        let b = forms_here f xs i place out w (statement.Graph name e) at_s in
-        with_line f xs i place out w (statement.Graph name e) at_s e [] b
-        (λ x. definition_text (codes "graph ") name (form_text x.form f.operations (params_in f))) middle new refl
-        (put ∙ ap (λ y. out ++ definition_text (codes "graph ") name (form_text y names params)) (form_is f xs i place out w (statement.Graph name e) at_s e [] b form at)
-        ∙ ap₂ (λ ns ps. out ++ definition_text (codes "graph ") name (form_text b.one.form ns ps)) names_are params_are) ends
+pub written_last : (f : Contents) (all : List Normal) (k : ℕ) (out : List ℕ) → Written f all (drop k all) out → length all ≤ k → out ≡ normal_text f all
+written_last f all k out w le = sym (w.whole ∙ ap (λ xs. out ++ text_of (normal_lines f.operations (params_in f) w.behind xs)) (drop_all k all le)
+    ∙ ap (λ ls. out ++ text_of ls) (no_lines f.operations (params_in f) w.behind) ∙ append-nil out)
 
-  module _ (name : List ℕ) (e : Expr) (bindings : List (List ℕ × Bool)) (at_s : IsSomeAnd (slice_get f.statements i) (λ n. statement.Scenario name e bindings ≡ n.statement)) where
-    pub scenario_within : place < length xs
-    scenario_within = (next_is f xs i place out w (statement.Scenario name e bindings) at_s e bindings (forms_here f xs i place out w (statement.Scenario name e bindings) at_s)).0
+-- the first of the forms that are left
+module _ (f : Contents) (all : List Normal) (k : ℕ) (x d : Normal) (out : List ℕ) (within : k < length all) (is : x ≡ slice_index_or all k d) (w : Written f all (drop k all) out) where
+  left_is : drop k all ≡ x ∷ drop (k + 1) all
+  left_is = next all k x d within is
 
-    pub written_scenario : (form : Form) (names params : List (List ℕ)) (middle bound new : List ℕ) → IsSomeAnd (slice_get xs place) (λ x. form ≡ x.form) → names ≡ f.operations → params ≡ params_in f
-        → middle ≡ out ++ definition_text (codes "scenario ") name (form_text form names params) → bound ≡ middle ++ with_text bindings → new ≡ bound ++ 10 ∷ [] → Written f xs (i + 1) (place + 1) new
-    written_scenario form names params middle bound new at names_are params_are put puts ends =
-        let b = forms_here f xs i place out w (statement.Scenario name e bindings) at_s in
-        with_line f xs i place out w (statement.Scenario name e bindings) at_s e bindings b
-        (λ x. definition_text (codes "scenario ") name (form_text x.form f.operations (params_in f)) ++ with_text bindings) bound new refl
-        (puts ∙ ap (λ m. m ++ with_text bindings) (put ∙ ap (λ y. out ++ definition_text (codes "scenario ") name (form_text y names params)) (form_is f xs i place out w (statement.Scenario name e bindings) at_s e bindings b form at)
-        ∙ ap₂ (λ ns ps. out ++ definition_text (codes "scenario ") name (form_text b.one.form ns ps)) names_are params_are)
-        ∙ append_assoc out (definition_text (codes "scenario ") name (form_text b.one.form f.operations (params_in f))) (with_text bindings)) ends
+  here : Next f x (drop (k + 1) all) (normal_lines f.operations (params_in f) w.behind (x ∷ drop (k + 1) all))
+  here = next_statement f x (drop (k + 1) all) w.behind w.before w.statements (ap (map origin_of) (sym left_is) ∙ w.origins)
+
+  stands : slice_get f.statements x.origin.statement ≡ Some here.here
+  stands = ap₂ slice_get here.statements here.place ∙ middle_get here.before here.behind here.here
+
+  pub statement_within : x.origin.statement < length f.statements
+  statement_within = slice_get_within f.statements x.origin.statement here.here stands
+
+  pub written_more : (s : Statement) (names params : List (List ℕ)) (form : Form) (new : List ℕ) → IsSomeAnd (slice_get f.statements x.origin.statement) (λ n. s ≡ n.statement) → names ≡ f.operations → params ≡ params_in f → form ≡ x.form
+      → new ≡ out ++ text_of (form_lines names params s form) → Written f all (drop (k + 1) all) new
+  written_more s names params form new at_s names_are params_are form_is put = record {
+    before = here.before ++ here.here ∷ [];
+    behind = here.behind;
+    statements = here.statements ∙ sym (append_assoc here.before (here.here ∷ []) here.behind);
+    origins = here.origins ∙ ap (λ n. origins_from n here.behind) (sym (length-append here.before (here.here ∷ [])));
+    whole = w.whole ∙ ap (λ xs. out ++ text_of (normal_lines f.operations (params_in f) w.behind xs)) left_is ∙ ap (λ ls. out ++ text_of ls) here.lines_are
+        ∙ ap (λ t. out ++ t) (flat_map-append ended (form_lines f.operations (params_in f) here.here.statement x.form) (normal_lines f.operations (params_in f) here.behind (drop (k + 1) all)))
+        ∙ sym (append_assoc out (text_of (form_lines f.operations (params_in f) here.here.statement x.form)) (text_of (normal_lines f.operations (params_in f) here.behind (drop (k + 1) all))))
+        ∙ ap (λ t. t ++ text_of (normal_lines f.operations (params_in f) here.behind (drop (k + 1) all))) (sym new_is);
+  }
+    where
+      statement_is : s ≡ here.here.statement
+      statement_is = subst (λ o. IsSomeAnd o (λ n. s ≡ n.statement)) stands at_s
+
+      new_is : new ≡ out ++ text_of (form_lines f.operations (params_in f) here.here.statement x.form)
+      new_is = put ∙ ap₂ (λ ns ps. out ++ text_of (form_lines ns ps s form)) names_are params_are ∙ ap₂ (λ t y. out ++ text_of (form_lines f.operations (params_in f) t y)) statement_is form_is

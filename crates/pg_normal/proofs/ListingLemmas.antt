@@ -1,14 +1,11 @@
 -- From names in order to forms.
-use Rattle.std.specs.Prelude.{◌≡◌, refl, ℕ, ◌<◌, ◌≤◌, ◌+◌, ◌*◌, ◌%◌, ◌^◌, ◌==◌, Bool, true, false, map, ◌&&◌, ◌||◌, bit_or, List, [], ◌∷◌, ◌++◌, length, slice_get}
+use Rattle.std.specs.Prelude.{◌≡◌, ◌≢◌, refl, ℕ, ◌<◌, ◌≤◌, ◌+◌, ◌==◌, Bool, true, false, map, ◌&&◌, ◌||◌, List, [], ◌∷◌, ◌++◌, length, slice_get, Some}
 use Rattle.std.specs.List.{AllByRecursion, list_all, flat_map}
-use Rattle.std.specs.Int.{w8}
-use Rattle.std.proofs.Common.{ap, ◌∙◌, sym, subst, drop, arith, inl, inr, append-nil, length-append}
+use Rattle.std.proofs.Common.{ap, ap₂, ◌∙◌, sym, subst, drop, arith, inl, inr, append-nil, append_assoc, length-append}
+use Rattle.std.proofs.lemmas.List.{map-append}
 use Rattle.std.proofs.lemmas.Bool.{and_from, cases_eq, eq-eqb, ne_eqb, lt-ltb, or_left}
 use Rattle.std.proofs.lemmas.List.Folds.{list_any-append}
-use Rattle.std.proofs.lemmas.Nat.Bits.{bit_at_set_same, bit_at_set_other}
 use Rattle.std.proofs.lemmas.Grind.{flat_map-append}
-use Rattle.std.proofs.lemmas.Nat.{or_lt}
-use Rattle.std.proofs.Math.Pow.{pow-lt}
 use Rattle.std.proofs.lemmas.List.{drop_all}
 use Rattle.std.proofs.lemmas.List.Sums.{sum_by-cons}
 use Rattle.std.proofs.lemmas.List.Folds.{flat_map-map}
@@ -21,7 +18,7 @@ use Rattle.std.proofs.lemmas.Option.{slice_get_within, get_or_from_slice_get}
 use Rattle.pg_text.specs.declared.statement.Statement.{Statement}
 use Rattle.pg_text.specs.declared.statement.Numbered.{Numbered}
 use Rattle.pg_text.specs.Numbers.{numbers_of, row_numbers}
-use Rattle.pg_normal.specs.declared.naming.Scope.{Scope}
+use Rattle.pg_normal.specs.declared.scope.Scope.{Scope}
 use Rattle.pg_normal.specs.declared.naming.NameFault.{NameFault}
 use Rattle.pg_normal.specs.declared.naming.NameFault.TheVariants as fault
 use Rattle.pg_normal.specs.Sound.{is_sound, is_sound_row}
@@ -32,9 +29,10 @@ use Rattle.pg_text.specs.Contents.{Contents}
 use Rattle.pg_text.specs.Text.{IsFile, count_in, count_of}
 use Rattle.pg_text.specs.declared.statement.Statement.TheVariants as statement
 use Rattle.pg_normal.specs.declared.known.Known.{Known}
-use Rattle.pg_normal.specs.declared.listing.Normal.{Normal}
+use Rattle.pg_normal.specs.declared.normal.Normal.{Normal}
 use Rattle.pg_normal.specs.Known.{IsKnown, graphs_known, orders_known}
-use Rattle.pg_normal.specs.Normals.{IsBound, Before, none_before, with_statement, params_in, StatementNormals, AreNormals}
+use Rattle.pg_normal.specs.declared.normal.Origin.{Origin}
+use Rattle.pg_normal.specs.Normals.{IsBinding, Before, none_before, with_statement, params_in, StatementNormals, AreNormals, origin, origins_from}
 use Rattle.pg_normal.proofs.RowLemmas.{bit-none}
 use Rattle.pg_normal.proofs.NamingLemmas.{next}
 use Rattle.pg_normal.proofs.RowLemmas.{some_at}
@@ -98,14 +96,12 @@ either_none : (a b : Bool) → b ≡ false → a ≡ (a || b)
 either_none true b h = refl
 either_none false b h = sym h
 
-pub bit_set : (n p k : ℕ) → p < 8 → bit (bit_or n (1 * 2 ^ p % 2 ^ 8)) k ≡ (bit n k || (p == k))
-bit_set n p k h = elim (cases_eq p k) [
-  | inl same ↦ ap (bit (bit_or n (1 * 2 ^ p % 2 ^ 8))) (sym same) ∙ ap (λ d. d == 1) (bit_at_set_same w8 n p h) ∙ either_one (bit n k) (p == k) (eq-eqb p k same)
-  | inr other ↦ ap (λ d. d == 1) (bit_at_set_other w8 n p h k (λ e. other (sym e))) ∙ either_none (bit n k) (p == k) (ne_eqb p k other)
+-- a word with one bit more
+pub bit_more : (w r p k : ℕ) → bit r p ≡ true → ((j : ℕ) → j ≢ p → bit r j ≡ bit w j) → bit r k ≡ (bit w k || (p == k))
+bit_more w r p k set others = elim (cases_eq p k) [
+  | inl same ↦ ap (bit r) (sym same) ∙ set ∙ either_one (bit w k) (p == k) (eq-eqb p k same)
+  | inr other ↦ others k (λ e. other (sym e)) ∙ either_none (bit w k) (p == k) (ne_eqb p k other)
 ]
-
-pub few_set : (n p : ℕ) → n < 64 → p < 6 → bit_or n (1 * 2 ^ p % 2 ^ 8) < 64
-few_set n p few h = or_lt 6 n (1 * 2 ^ p % 2 ^ 8) few (let less : 2 ^ p < 2 ^ 6 = pow-lt h in omega (arith, less))
 
 pub and_one : (a b c : Bool) → c ≡ true → (a || b) ≡ (a || (b && c))
 and_one a true c h = ap (λ x. a || x) (sym h)
@@ -113,10 +109,11 @@ and_one a false c h = refl
 
 -- ---- the line at hand
 
-pub line_at : (ss : List Numbered) (i : ℕ) (s : Statement) → IsSomeAnd (slice_get ss i) (λ n. s ≡ n.statement) → (n : Numbered) × (s ≡ n.statement) × (drop i ss ≡ n ∷ drop (i + 1) ss)
+pub line_at : (ss : List Numbered) (i : ℕ) (s : Statement) → IsSomeAnd (slice_get ss i) (λ n. s ≡ n.statement)
+    → (n : Numbered) × (s ≡ n.statement) × (drop i ss ≡ n ∷ drop (i + 1) ss) × (slice_get ss i ≡ Some n)
 line_at ss i s at =
     let n = some_at (λ n. s ≡ n.statement) (slice_get ss i) at in
-    (n.0, n.2, next ss i n.0 n.0 (slice_get_within ss i n.0 n.1) (sym (get_or_from_slice_get ss i n.0 n.0 n.1)))
+    (n.0, n.2, next ss i n.0 n.0 (slice_get_within ss i n.0 n.1) (sym (get_or_from_slice_get ss i n.0 n.0 n.1)), n.1)
 
 pub line_without_faults : (scope : Scope) (ss : List Numbered) (i : ℕ) (s : Statement) → IsSomeAnd (slice_get ss i) (λ n. s ≡ n.statement) → faults_from scope (drop i ss) ≡ []
     → (line : ℕ) × (statement_faults line scope s ≡ []) × (faults_from (scope_after scope s) (drop (i + 1) ss) ≡ [])
@@ -151,10 +148,13 @@ count_params (n ∷ ss) scope = count_params ss (scope_after scope n.statement) 
     three : (a b c : ℕ) → (a + b) + c ≡ a + (b + c)
     three a b c = omega arith
 
-pub no_bindings : (params : List (List ℕ)) → IsBound params [] (record { fixed = 0; values = 0 })
+pub no_bindings : (params : List (List ℕ)) → IsBinding params [] (record { fixed = 0; values = 0 })
 no_bindings params = record { few = (omega arith, omega arith); fixed = λ k. bit-none k; values = λ k. bit-none k }
 
 -- ---- forms so far
+
+abbrev pub origin_of : Normal → Origin
+origin_of x = x.origin
 
 -- what is known before line i, and that forms of the lines from there complete the list
 pub record At (count : ℕ) (f : Contents) (known : Known) (i : ℕ) (xs : List Normal) : Type 0 where
@@ -168,6 +168,7 @@ pub record At (count : ℕ) (f : Contents) (known : Known) (i : ℕ) (xs : List 
   pub graphs : (n : ℕ) → n < 64 → graphs_known known n ≡ before.graphs n
   pub orders : orders_known known ≡ before.orders
   pub forms : (rest : List Normal) → AreNormals (params_in f) before (drop i f.statements) rest → AreNormals (params_in f) none_before f.statements (xs ++ rest)
+  pub origins : origins_from 0 f.statements ≡ map origin_of xs ++ origins_from i (drop i f.statements)
 
 pub at_first : (count : ℕ) (f : Contents) → name_faults f ≡ [] → IsFile f → (known : Known) → known ≡ record { params = params_in f; graphs = []; tables = [] } → At count f known 0 []
 at_first count f none file known is = subst (λ k. At count f k 0 []) (sym is) (record {
@@ -181,14 +182,32 @@ at_first count f none file known is = subst (λ k. At count f k 0 []) (sym is) (
   graphs = λ n h. refl;
   orders = refl;
   forms = λ rest h. h;
+  origins = refl;
 })
 
 pub at_last : (count : ℕ) (f : Contents) (known : Known) (i : ℕ) (xs : List Normal) → At count f known i xs → length f.statements ≤ i → AreNormals (params_in f) none_before f.statements xs
 at_last count f known i xs at le = subst (AreNormals (params_in f) none_before f.statements) (append-nil xs) (at.forms [] (subst (λ ss. AreNormals (params_in f) at.before ss []) (sym (drop_all i f.statements le)) refl))
 
+pub origins_at_last : (count : ℕ) (f : Contents) (known : Known) (i : ℕ) (xs : List Normal) → At count f known i xs → length f.statements ≤ i → map origin_of xs ≡ origins_from 0 f.statements
+origins_at_last count f known i xs at le = sym (at.origins ∙ ap (λ ss. map origin_of xs ++ origins_from i ss) (drop_all i f.statements le) ∙ append-nil (map origin_of xs))
+
 module _ (count : ℕ) (f : Contents) (known : Known) (i : ℕ) (xs : List Normal) (at : At count f known i xs) (s : Statement) (at_s : IsSomeAnd (slice_get f.statements i) (λ n. s ≡ n.statement)) where
-  line : (n : Numbered) × (s ≡ n.statement) × (drop i f.statements ≡ n ∷ drop (i + 1) f.statements)
+  line : (n : Numbered) × (s ≡ n.statement) × (drop i f.statements ≡ n ∷ drop (i + 1) f.statements) × (slice_get f.statements i ≡ Some n)
   line = line_at f.statements i s at_s
+
+  -- the line of the statement is the one that is answered
+  same_line : (n : ℕ) → IsSomeAnd (slice_get f.statements i) (λ t. n ≡ t.line) → n ≡ line.0.line
+  same_line n at_n = subst (λ o. IsSomeAnd o (λ t. n ≡ t.line)) line.3 at_n
+
+  pub origins_after : (n : ℕ) → IsSomeAnd (slice_get f.statements i) (λ t. n ≡ t.line) → origins_from 0 f.statements ≡ map origin_of xs ++ (origin i n s ++ origins_from (i + 1) (drop (i + 1) f.statements))
+  origins_after n at_n = at.origins ∙ ap (λ ss. map origin_of xs ++ origins_from i ss) line.2
+      ∙ ap₂ (λ l t. map origin_of xs ++ (origin i l t ++ origins_from (i + 1) (drop (i + 1) f.statements))) (sym (same_line n at_n)) (sym line.1)
+
+  pub origins_added : (n : ℕ) (x : Normal) (o : Origin) → IsSomeAnd (slice_get f.statements i) (λ t. n ≡ t.line) → x.origin ≡ o → origin i n s ≡ o ∷ []
+      → origins_from 0 f.statements ≡ map origin_of (xs ++ x ∷ []) ++ origins_from (i + 1) (drop (i + 1) f.statements)
+  origins_added n x o at_n is one = origins_after n at_n ∙ ap (λ os. map origin_of xs ++ (os ++ origins_from (i + 1) (drop (i + 1) f.statements))) (one ∙ ap (λ p. p ∷ []) (sym is))
+      ∙ sym (append_assoc (map origin_of xs) (x.origin ∷ []) (origins_from (i + 1) (drop (i + 1) f.statements)))
+      ∙ ap (λ os. os ++ origins_from (i + 1) (drop (i + 1) f.statements)) (sym (map-append origin_of xs (x ∷ [])))
 
   pub whole_after : scope_from nothing f.statements ≡ scope_from (scope_after at.scope s) (drop (i + 1) f.statements)
   whole_after = at.whole ∙ ap (scope_from at.scope) line.2 ∙ ap (λ t. scope_from (scope_after at.scope t) (drop (i + 1) f.statements)) (sym line.1)

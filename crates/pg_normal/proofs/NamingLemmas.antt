@@ -1,14 +1,13 @@
 -- Faults of names, part by part.
 use Rattle.std.specs.Prelude.{◌≡◌, ◌⊎◌, refl, ℕ, ◌<◌, ◌+◌, false, List, [], ◌∷◌, ◌++◌, map, length, slice_get, Option, Some, None, is_some}
 use Rattle.std.specs.List.{flat_map}
-use Rattle.std.proofs.Common.{ap, ap₂, ◌∙◌, sym, subst, get_or, drop, suc, add-one, inl, inr}
+use Rattle.std.proofs.Common.{ap, ◌∙◌, sym, subst, get_or, slice_index_or, drop, suc, add-one, inl, inr}
 use Rattle.std.proofs.Math.Seq.{drop-cons}
 use Rattle.std.proofs.Math.Bool.{and-true}
 use Rattle.std.proofs.lemmas.Bool.{both_ways}
 use Rattle.std.proofs.lemmas.Grind.{flat_map-append}
 use Rattle.std.proofs.lemmas.List.Folds.{flat_map-map}
-use Rattle.std.proofs.lemmas.Option.{slice_get_within, get_or_from_slice_get}
-use Rattle.std.specs.Option.{IsSomeAnd}
+use Rattle.std.proofs.lemmas.Option.{slice_get_within, get_or_from_slice_get, slice_get-get_or}
 use denote.Hole.Carrier.{hidden}
 use Rattle.cpog_base.specs.Names.{has_text, place_of}
 use Rattle.pg_algebra.specs.declared.cond.Cond.{Cond}
@@ -19,9 +18,8 @@ use Rattle.pg_algebra.specs.declared.expr.Expr.TheViews.{When, Overlay, Sequence
 use Rattle.pg_algebra.specs.Conditions.{params_of}
 use Rattle.pg_algebra.proofs.KnownLemmas.{knows-Param}
 use Rattle.pg_algebra.proofs.TreeLaws.{params_of-Not, params_of-And, params_of-Or}
-use Rattle.pg_text.specs.declared.statement.Statement.{Statement}
 use Rattle.pg_text.specs.declared.statement.Numbered.{Numbered}
-use Rattle.pg_normal.specs.declared.naming.Scope.{Scope}
+use Rattle.pg_normal.specs.declared.scope.Scope.{Scope}
 use Rattle.pg_normal.specs.declared.naming.NameFault.{NameFault}
 use Rattle.pg_normal.specs.declared.naming.NameFault.TheVariants as fault
 use Rattle.pg_normal.specs.Naming.{param_used, uses, unknown_param, unknown, expr_faults, statement_faults, scope_after, scope_from, faults_from, first, IsFirst}
@@ -94,28 +92,23 @@ faults-row line scope e es is = sym (ap (flat_map (unknown line scope)) (uses-ro
 
 -- ---- one line more
 
-both_parts : (o : Option Numbered) (line : ℕ) (s : Statement) → IsSomeAnd o (λ n. line ≡ n.line) → IsSomeAnd o (λ n. s ≡ n.statement) → o ≡ Some (record { line = line; statement = s })
-both_parts None line s at at_s = absurd at
-both_parts (Some n) line s at at_s = ap₂ (λ l t. Some (record { line = l; statement = t })) (sym at) (sym at_s)
+-- the item of a list that is gone over
+pub item_at : (ss xs : List Numbered) (i : ℕ) (n d : Numbered) → xs ≡ ss → i < length xs → n ≡ slice_index_or xs i d → slice_get ss i ≡ Some n
+item_at ss xs i n d same within is = ap (λ ys. slice_get ys i) (sym same) ∙ slice_get-get_or xs i d within ∙ ap Some (sym is)
 
-module _ (ss : List Numbered) (i line : ℕ) (s : Statement) (scope : Scope) (whole : List NameFault)
-    (at : IsSomeAnd (slice_get ss i) (λ n. line ≡ n.line)) (at_s : IsSomeAnd (slice_get ss i) (λ n. s ≡ n.statement)) (so_far : whole ≡ faults_from scope (drop i ss)) where
-  here : slice_get ss i ≡ Some (record { line = line; statement = s })
-  here = both_parts (slice_get ss i) line s at at_s
+module _ (ss : List Numbered) (i : ℕ) (n : Numbered) (here : slice_get ss i ≡ Some n) where
+  split : drop i ss ≡ n ∷ drop (i + 1) ss
+  split = next ss i n n (slice_get_within ss i n here) (sym (get_or_from_slice_get ss i n n here))
 
-  parts : whole ≡ statement_faults line scope s ++ faults_from (scope_after scope s) (drop (i + 1) ss)
-  parts = so_far ∙ ap (faults_from scope) (next ss i (record { line = line; statement = s }) (record { line = line; statement = s }) (slice_get_within ss i _ here) (sym (get_or_from_slice_get ss i _ _ here)))
+  module _ (scope : Scope) (whole : List NameFault) (so_far : whole ≡ faults_from scope (drop i ss)) where
+    parts : whole ≡ statement_faults n.line scope n.statement ++ faults_from (scope_after scope n.statement) (drop (i + 1) ss)
+    parts = so_far ∙ ap (faults_from scope) split
 
-  pub line_passes : (new : Scope) → statement_faults line scope s ≡ [] → new ≡ scope_after scope s → whole ≡ faults_from new (drop (i + 1) ss)
-  line_passes new none is = parts ∙ ap (λ fs. fs ++ faults_from (scope_after scope s) (drop (i + 1) ss)) none ∙ ap (λ x. faults_from x (drop (i + 1) ss)) (sym is)
+    pub line_passes : (new : Scope) → statement_faults n.line scope n.statement ≡ [] → new ≡ scope_after scope n.statement → whole ≡ faults_from new (drop (i + 1) ss)
+    line_passes new none is = parts ∙ ap (λ fs. fs ++ faults_from (scope_after scope n.statement) (drop (i + 1) ss)) none ∙ ap (λ x. faults_from x (drop (i + 1) ss)) (sym is)
 
-  pub line_faulty : (f : NameFault) → IsFirst (statement_faults line scope s) f → IsFirst whole f
-  line_faulty f h = first_in whole (statement_faults line scope s) (faults_from (scope_after scope s) (drop (i + 1) ss)) f parts h
+    pub line_faulty : (f : NameFault) → IsFirst (statement_faults n.line scope n.statement) f → IsFirst whole f
+    line_faulty f h = first_in whole (statement_faults n.line scope n.statement) (faults_from (scope_after scope n.statement) (drop (i + 1) ss)) f parts h
 
-pub line_defines : (ss : List Numbered) (i line : ℕ) (s : Statement) (scope whole : Scope)
-    → IsSomeAnd (slice_get ss i) (λ n. line ≡ n.line) → IsSomeAnd (slice_get ss i) (λ n. s ≡ n.statement) → whole ≡ scope_from scope (drop i ss)
-    → (new : Scope) → new ≡ scope_after scope s → whole ≡ scope_from new (drop (i + 1) ss)
-line_defines ss i line s scope whole at at_s so_far new is =
-    let there = both_parts (slice_get ss i) line s at at_s in
-    so_far ∙ ap (scope_from scope) (next ss i (record { line = line; statement = s }) (record { line = line; statement = s }) (slice_get_within ss i _ there) (sym (get_or_from_slice_get ss i _ _ there)))
-    ∙ ap (λ x. scope_from x (drop (i + 1) ss)) (sym is)
+  pub line_defines : (scope whole : Scope) → whole ≡ scope_from scope (drop i ss) → (new : Scope) → new ≡ scope_after scope n.statement → whole ≡ scope_from new (drop (i + 1) ss)
+  line_defines scope whole so_far new is = so_far ∙ ap (scope_from scope) split ∙ ap (λ x. scope_from x (drop (i + 1) ss)) (sym is)

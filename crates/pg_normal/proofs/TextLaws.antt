@@ -15,7 +15,7 @@ use Rattle.pg_text.specs.declared.statement.Numbered.{Numbered}
 use Rattle.pg_text.specs.Contents.{Contents}
 use Rattle.pg_text.specs.Writing.{with_text}
 use Rattle.line_text.specs.Lines.{text_of}
-use Rattle.pg_normal.specs.declared.listing.Normal.{Normal}
+use Rattle.pg_normal.specs.declared.normal.Normal.{Normal}
 use Rattle.pg_normal.specs.Forms.{Form, word, vertex_table, arc_table, IsWord, IsFormOf}
 use Rattle.pg_normal.specs.Normals.{Before, with_statement, params_in, StatementNormals, AreNormals, AreNormalsOf, none_before}
 use Rattle.pg_normal.specs.Writing.{prefix_text, arc_text, sum_text, vertices_of, form_text}

@@ -2,6 +2,7 @@
 use Rattle.std.specs.Prelude.{◌≡◌, ◌≢◌, ℕ, ◌<◌, true}
 use Rattle.std.specs.FinSet as set
 use Rattle.cpog_base.specs.Arcs.{has_arc}
+use Rattle.cpog_base.specs.declared.limits.TheConstants.{PARAM_LIMIT}
 use Rattle.cpog_defs.specs.Codes.{bit}
 use Rattle.cpog_defs.specs.Scenarios.{Scenario}
 use Rattle.pg_algebra.specs.Graphs.{Graph}
@@ -12,7 +13,7 @@ use Rattle.pg_normal.specs.declared.instances.InstanceFault.TheVariants as fault
 
 -- under valuation n each fixed parameter has its bit
 abbrev pub Agrees : ℕ → ℕ → ℕ → Type 0
-Agrees fixed values n = (k : ℕ) → k < 6 → bit fixed k ≡ true → bit n k ≡ bit values k
+Agrees fixed values n = (k : ℕ) → k < PARAM_LIMIT → bit fixed k ≡ true → bit n k ≡ bit values k
 
 -- of so many operations as there may be, those of the graph, with its arcs
 pub record IsScenarioOf (count : ℕ) (g : Graph) (sc : Scenario) : Type 0 where
@@ -34,7 +35,7 @@ pub record ChangesGraph (f : Form) (fixed values k : ℕ) : Type 0 where
 
 -- k is the least such parameter
 pub record IsUnbound (f : Form) (fixed values k : ℕ) : Type 0 where
-  pub below : k < 6
+  pub below : k < PARAM_LIMIT
   pub changes : ChangesGraph f fixed values k
   pub least : (j : ℕ) → j < k → ChangesGraph f fixed values j → ⊥
 

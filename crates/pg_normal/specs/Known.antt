@@ -2,6 +2,7 @@
 use Rattle.std.specs.Prelude.{◌≡◌, ℕ, ◌<◌, ◌≤◌, true, List, [], length, slice_get, slice_index, slice_index_or, Option, Some, None}
 use Rattle.std.specs.List.{AllByRecursion}
 use Rattle.cpog_base.specs.Names.{place_of}
+use Rattle.cpog_base.specs.declared.limits.TheConstants.{PARAM_LIMIT}
 use Rattle.cpog_defs.specs.Codes.{bit}
 use Rattle.pg_algebra.specs.Graphs.{Graph, empty}
 use Rattle.pg_algebra.specs.declared.expr.Expr.{Expr}
@@ -69,7 +70,7 @@ graph_stated known n e = graph_of (graphs_known known n) (valuation known.params
 
 -- few parameters, and tables over so many operations for each graph that is known
 pub record IsKnown (count : ℕ) (known : Known) : Type 0 where
-  pub few : length known.params ≤ 6
+  pub few : length known.params ≤ PARAM_LIMIT
   pub each : length known.tables ≡ length known.graphs
   pub over : AllByRecursion (IsOver count) known.tables
 

@@ -9,3 +9,4 @@ pub mod Listed
 pub mod Normals
 pub mod Writing
 pub mod Listing
+pub mod Denoting

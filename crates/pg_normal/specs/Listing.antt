@@ -6,8 +6,9 @@ use Rattle.pg_text.specs.declared.statement.Statement.TheVariants as statement
 use Rattle.pg_text.specs.declared.statement.Numbered.{Numbered}
 use Rattle.pg_text.specs.Contents.{Contents}
 use Rattle.pg_text.specs.Writing.{row_text, with_text}
-use Rattle.pg_normal.specs.declared.listing.Normal.{Normal}
+use Rattle.pg_normal.specs.declared.normal.Normal.{Normal}
 use Rattle.pg_normal.specs.Normals.{params_in}
+use Rattle.pg_normal.specs.Forms.{Form}
 use Rattle.pg_normal.specs.Writing.{form_text}
 
 -- the line of all parameters, and no line where there is none
@@ -18,6 +19,12 @@ params_lines (p ∷ ps) = (codes "params " ++ row_text (codes ", ") (p ∷ ps)) 
 -- a keyword, a name and a form
 abbrev pub definition_text : List ℕ → List ℕ → List ℕ → List ℕ
 definition_text keyword name form = keyword ++ (name ++ (codes " = " ++ form))
+
+-- the line of a statement whose form this is: a scenario's bindings stand behind it, and a statement of parameters has none
+abbrev pub form_lines : List (List ℕ) → List (List ℕ) → Statement → Form → List (List ℕ)
+form_lines names params (statement.Params ws) form = []
+form_lines names params (statement.Graph w e) form = definition_text (codes "graph ") w (form_text form names params) ∷ []
+form_lines names params (statement.Scenario w e bs) form = (definition_text (codes "scenario ") w (form_text form names params) ++ with_text bs) ∷ []
 
 -- the line that the first form stands in, and the lines of the rest
 abbrev pub first_line : (Normal → List ℕ) → (List Normal → List (List ℕ)) → List Normal → List (List ℕ)

@@ -8,7 +8,7 @@ use Rattle.pg_text.specs.declared.statement.Statement.{Statement}
 use Rattle.pg_text.specs.declared.statement.Statement.TheVariants as statement
 use Rattle.pg_text.specs.declared.statement.Numbered.{Numbered}
 use Rattle.pg_text.specs.Contents.{Contents}
-use Rattle.pg_normal.specs.declared.naming.Scope.{Scope}
+use Rattle.pg_normal.specs.declared.scope.Scope.{Scope}
 use Rattle.pg_normal.specs.declared.naming.NameFault.{NameFault}
 use Rattle.pg_normal.specs.declared.naming.NameFault.TheVariants as fault
 
@@ -47,6 +47,10 @@ scope_after scope (statement.Scenario name e bindings) = record { params = scope
 abbrev pub scope_from : Scope → List Numbered → Scope
 scope_from scope [] = scope
 scope_from scope (s ∷ ss) = scope_from (scope_after scope s.statement) ss
+
+-- all names of a file
+abbrev pub scope_in : Contents → Scope
+scope_in f = scope_from nothing f.statements
 
 -- ---- faults, on a line of this number
 
@@ -102,6 +106,11 @@ faults_from scope (s ∷ ss) = statement_faults s.line scope s.statement ++ faul
 -- all faults of names in a file, by line, and within a line by place
 abbrev pub name_faults : Contents → List NameFault
 name_faults f = faults_from nothing f.statements
+
+-- the names of a file, which are in order
+pub record IsScopeOf (f : Contents) (scope : Scope) : Type 0 where
+  pub in_order : name_faults f ≡ []
+  pub whole : scope ≡ scope_in f
 
 -- ---- the first fault
 

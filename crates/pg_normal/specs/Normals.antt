@@ -1,5 +1,5 @@
 -- The normal forms that a file asks for, and the parameters that its statements bind.
-use Rattle.std.specs.Prelude.{◌≡◌, ℕ, ◌<◌, ◌==◌, Bool, false, ◌&&◌, List, [], ◌∷◌, Option, Some, None, if◌then◌else◌}
+use Rattle.std.specs.Prelude.{◌≡◌, ℕ, ◌+◌, ◌<◌, ◌==◌, Bool, false, ◌&&◌, List, [], ◌∷◌, ◌++◌, map, Option, Some, None, if◌then◌else◌}
 use Rattle.std.specs.List.{list_any}
 use Rattle.std.specs.Str.{bytes_eq}
 use Rattle.cpog_base.specs.Names.{place_of}
@@ -12,15 +12,17 @@ use Rattle.pg_text.specs.declared.statement.Statement.{Statement}
 use Rattle.pg_text.specs.declared.statement.Statement.TheVariants as statement
 use Rattle.pg_text.specs.declared.statement.Numbered.{Numbered}
 use Rattle.pg_text.specs.Contents.{Contents}
-use Rattle.pg_normal.specs.declared.instances.Partial.{Partial}
-use Rattle.pg_normal.specs.declared.listing.Normal.{Normal}
+use Rattle.pg_normal.specs.declared.binding.Partial.{Partial}
+use Rattle.pg_normal.specs.declared.normal.Normal.{Normal}
+use Rattle.pg_normal.specs.declared.normal.Origin.{Origin}
+use Rattle.pg_normal.specs.declared.normal.Kind.TheVariants as kind
 use Rattle.pg_normal.specs.Appearing.{first_appearing}
 use Rattle.pg_normal.specs.Forms.{IsFormOf}
-use Rattle.pg_normal.specs.Naming.{nothing, scope_from, name_faults}
+use Rattle.pg_normal.specs.Naming.{scope_in, name_faults}
 
 -- the parameters of a file, in the order of their definitions
 abbrev pub params_in : Contents → List (List ℕ)
-params_in f = (scope_from nothing f.statements).params
+params_in f = (scope_in f).params
 
 -- ---- earlier graphs
 
@@ -56,17 +58,17 @@ abbrev pub binds_one : List (List ℕ) → List (List ℕ × Bool) → ℕ → B
 binds_one params bindings k = list_any (λ b. is_place k (place_of params b.0) && b.1) bindings
 
 -- bit k of the masks says whether parameter k is bound, and to what
-pub record IsBound (params : List (List ℕ)) (bindings : List (List ℕ × Bool)) (p : Partial) : Type 0 where
+pub record IsBinding (params : List (List ℕ)) (bindings : List (List ℕ × Bool)) (p : Partial) : Type 0 where
   pub few : (p.fixed < 64) × (p.values < 64)
   pub fixed : (k : ℕ) → bit p.fixed k ≡ binds params bindings k
   pub values : (k : ℕ) → bit p.values k ≡ binds_one params bindings k
 
 -- ---- forms
 
--- the form of an expression over earlier graphs under every valuation, and its bound parameters
+-- the form of an expression over earlier graphs under every valuation, and the parameters that are bound
 pub record IsNormal (params : List (List ℕ)) (before : Before) (e : Expr) (bindings : List (List ℕ × Bool)) (x : Normal) : Type 0 where
   pub form : IsFormOf (λ n. graph_of (before.graphs n) (valuation params n) e) (first_appearing before.orders e) x.form
-  pub bound : IsBound params bindings x.bound
+  pub binding : IsBinding params bindings x.binding
 
 -- the first of the list is such a form, and the rest follow
 pub record BeginsWithNormal (params : List (List ℕ)) (before : Before) (e : Expr) (bindings : List (List ℕ × Bool)) (xs : List Normal) (Rest : List Normal → Type 0) : Type 0 where
@@ -87,7 +89,23 @@ abbrev pub AreNormals : List (List ℕ) → Before → List Numbered → List No
 AreNormals params before [] xs = xs ≡ []
 AreNormals params before (s ∷ ss) xs = StatementNormals params before s.statement (AreNormals params (with_statement params before s.statement) ss) xs
 
--- the forms of a file whose names are in order
+-- ---- where forms come from
+
+-- of a graph or a scenario its place among the statements, its line and its kind; a statement of parameters has no form
+abbrev pub origin : ℕ → ℕ → Statement → List Origin
+origin place line (statement.Params names) = []
+origin place line (statement.Graph name e) = record { statement = place; line = line; kind = kind.Graph } ∷ []
+origin place line (statement.Scenario name e bindings) = record { statement = place; line = line; kind = kind.Scenario } ∷ []
+
+-- of each graph and scenario, where these statements stand from a place on
+abbrev pub origins_from : ℕ → List Numbered → List Origin
+origins_from place [] = []
+origins_from place (s ∷ ss) = origin place s.line s.statement ++ origins_from (place + 1) ss
+
+-- ---- the forms of a file
+
+-- the forms of a file whose names are in order, and where each comes from
 pub record AreNormalsOf (f : Contents) (xs : List Normal) : Type 0 where
   pub names : name_faults f ≡ []
   pub forms : AreNormals (params_in f) none_before f.statements xs
+  pub origins : map (λ x. x.origin) xs ≡ origins_from 0 f.statements

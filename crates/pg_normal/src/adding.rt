@@ -10,7 +10,7 @@ ghost use Rattle.pg_normal.specs.Known.{AreRowsOver, IsKnown, IsOver, graph_of_r
 ghost use Rattle.pg_normal.specs.Sound.{all_sound, is_sound};
 
 use crate::tables::{join_once, take_up, unite_rows, zero_rows};
-use crate::{Known, Order, Row, Tables};
+use crate::{Appearance, Known, Row, Tables};
 use cpog_base::Memory;
 use pg_algebra::{Expr, Table, table_of};
 use sqlite_items::Items;
@@ -18,7 +18,7 @@ use std::alloc::Global;
 
 /// Notes the operations of an expression as they stand in it.
 #[cycle(note)]
-fn note(expr: &Expr, known: &Known, order: &mut Order) -> Result<(), Memory>
+fn note(expr: &Expr, known: &Known, order: &mut Appearance) -> Result<(), Memory>
     ensures { OnOk result (order.new ≡ with_numbers order.old (appearing (orders_known known.now) expr.now)) }
 {
     match expr {
@@ -35,7 +35,7 @@ fn note(expr: &Expr, known: &Known, order: &mut Order) -> Result<(), Memory>
 
 /// Notes the operations of each expression as they stand in it.
 #[cycle(note)]
-fn note_each(members: &[Expr], known: &Known, order: &mut Order) -> Result<(), Memory>
+fn note_each(members: &[Expr], known: &Known, order: &mut Appearance) -> Result<(), Memory>
     ensures { OnOk result (order.new ≡ with_numbers order.old (flat_map (appearing (orders_known known.now)) members.now)) }
 {
     'members: for member in members {
@@ -191,7 +191,7 @@ pub(crate) fn tables_of(
         &mut arcs,
         &mut united,
     )?;
-    let mut order = Order::new(alloc);
+    let mut order = Appearance::new(alloc);
     note(expr, known, &mut order)?;
     Ok(Tables {
         order,

@@ -9,17 +9,11 @@ ghost use Rattle.pg_normal.specs.Instances.{Agrees, IsInstance, IsInstanceFault,
 ghost use Rattle.pg_normal.specs.Changes.{Differs, Keeps, KeepsVertices, KeepsArcs, KeepsGraph, VertexDiffers, ArcDiffers, IsBelow};
 ghost use Rattle.pg_normal.specs.declared.instances.InstanceFault.TheVariants as fault;
 
-use crate::NormalForm;
-use cpog_base::{Memory, OpId, Scenario};
+use crate::{NormalForm, Partial};
+use cpog_base::bits::has_bit;
+use cpog_base::{Memory, OpId, PARAM_LIMIT, Scenario};
 use pg_algebra::Table;
 use std::alloc::Global;
-
-/// Bits of some parameters: which are fixed, and their values.
-#[derive(Clone, Copy, Debug, PartialEq, Eq)]
-pub struct Partial {
-    pub fixed: u8,
-    pub values: u8,
-}
 
 /// Why a form under bindings is no scenario.
 #[derive(Clone, Copy, Debug, PartialEq, Eq)]
@@ -38,20 +32,18 @@ impl From<Memory> for InstanceFault {
     }
 }
 
-/// Bit k of a word.
-pub(crate) fn is_set(word: u8, k: u8) -> bool
-    requires { k < 8 }
-    ensures { result ≡ bit word k }
+/// Bit k of a mask, or of a valuation's number.
+pub(crate) fn is_set(mask: u8, k: u8) -> bool
+    ensures { result ≡ bit mask k }
 {
-    (word >> k) & 1 == 1
+    has_bit(u64::from(mask), k)
 }
 
 /// The value under valuation n.
 pub(crate) fn value_at(table: Table, n: u8) -> bool
-    requires { n < 64 }
     ensures { result ≡ bit table.0 n }
 {
-    (table.0 >> n) & 1 == 1
+    has_bit(table.0, n)
 }
 
 /// Whether the word is 1 under some valuation.
@@ -63,7 +55,7 @@ fn ever_holds(word: u64) -> bool
 
 /// The table of a parameter, or of its complement.
 fn literal(k: u8, set: bool) -> Table
-    requires { k < 6 }
+    requires { k < PARAM_LIMIT }
     ensures { (n : ℕ) → n < 64 → (bit result.0 n ≡ true) ↔ (bit n k ≡ set) }
 {
     let own = Table::of_param(k);
@@ -71,13 +63,13 @@ fn literal(k: u8, set: bool) -> Table
 }
 
 /// The valuations that agree with the bindings.
-fn agreeing(bound: Partial) -> Table
-    ensures { (n : ℕ) → n < 64 → (bit result.0 n ≡ true) ↔ Agrees bound.fixed bound.values n }
+fn agreeing(binding: Partial) -> Table
+    ensures { (n : ℕ) → n < 64 → (bit result.0 n ≡ true) ↔ Agrees binding.fixed binding.values n }
 {
     let mut all = Table::constant(true);
     'parameters: for k in 0..6 {
-        if is_set(bound.fixed, k) {
-            all = all.and(literal(k, is_set(bound.values, k)));
+        if is_set(binding.fixed, k) {
+            all = all.and(literal(k, is_set(binding.values, k)));
         }
     }
     all
@@ -85,7 +77,7 @@ fn agreeing(bound: Partial) -> Table
 
 /// Whether parameter k alone changes the table under some of these valuations.
 fn changes(table: Table, k: u8, among: Table) -> bool
-    requires { k < 6 }
+    requires { k < PARAM_LIMIT }
     ensures { MatchBool result (Differs table.0 k among.0) (Keeps table.0 k among.0) }
 {
     let turned = table.fix(k, true).0 ^ table.fix(k, false).0;
@@ -94,7 +86,7 @@ fn changes(table: Table, k: u8, among: Table) -> bool
 
 /// Whether parameter k alone changes which vertices there are.
 fn vertices_change(form: &NormalForm, k: u8, among: Table) -> bool
-    requires { k < 6 }
+    requires { k < PARAM_LIMIT }
     ensures { MatchBool result (VertexDiffers form.now k among.0) (KeepsVertices form.now k among.0) }
 {
     'vertices: for i in 0..form.vertices() {
@@ -108,7 +100,7 @@ fn vertices_change(form: &NormalForm, k: u8, among: Table) -> bool
 
 /// Whether parameter k alone changes which arcs there are.
 fn arcs_change(form: &NormalForm, k: u8, among: Table) -> bool
-    requires { k < 6 }
+    requires { k < PARAM_LIMIT }
     ensures { MatchBool result (ArcDiffers form.now k among.0) (KeepsArcs form.now k among.0) }
 {
     'arcs: for i in 0..form.arcs() {
@@ -122,19 +114,19 @@ fn arcs_change(form: &NormalForm, k: u8, among: Table) -> bool
 
 /// Whether parameter k alone changes the graph under some of these valuations.
 fn graph_changes(form: &NormalForm, k: u8, among: Table) -> bool
-    requires { k < 6 }
+    requires { k < PARAM_LIMIT }
     ensures { MatchBool result (VertexDiffers form.now k among.0 ⊎ ArcDiffers form.now k among.0) (KeepsGraph form.now k among.0) }
 {
     vertices_change(form, k, among) || arcs_change(form, k, among)
 }
 
 /// The least parameter that is not bound and changes the graph under some of these valuations.
-fn first_unbound(form: &NormalForm, bound: Partial, among: Table) -> Option<u8>
-    requires { (n : ℕ) → n < 64 → (bit among.0 n ≡ true) ↔ Agrees bound.fixed bound.values n }
-    ensures { MatchOption result ((k : ℕ) → k < 6 → bit bound.fixed k ≡ false → KeepsGraph form.now k among.0) (IsUnbound form.now bound.fixed bound.values) }
+fn first_unbound(form: &NormalForm, binding: Partial, among: Table) -> Option<u8>
+    requires { (n : ℕ) → n < 64 → (bit among.0 n ≡ true) ↔ Agrees binding.fixed binding.values n }
+    ensures { MatchOption result ((k : ℕ) → k < PARAM_LIMIT → bit binding.fixed k ≡ false → KeepsGraph form.now k among.0) (IsUnbound form.now binding.fixed binding.values) }
 {
     'parameters: for k in 0..6 {
-        if !is_set(bound.fixed, k) && graph_changes(form, k, among) {
+        if !is_set(binding.fixed, k) && graph_changes(form, k, among) {
             return Some(k);
         }
     }
@@ -199,18 +191,18 @@ fn scenario_at(alloc: Global, form: &NormalForm, n: u8, count: u8) -> Result<Sce
 pub fn instance(
     alloc: Global,
     form: &NormalForm,
-    bound: Partial,
+    binding: Partial,
     count: u8,
 ) -> Result<Scenario, InstanceFault>
     requires few { count ≤ 128 }
     requires below { IsBelow count form.now }
-    requires values { bound.values < 64 }
-    ensures ok { IfOk result (IsInstance form.now bound.fixed bound.values count) }
-    ensures err { IfErr result (IsInstanceFault form.now bound.fixed bound.values) }
+    requires values { binding.values < 64 }
+    ensures ok { IfOk result (IsInstance form.now binding.fixed binding.values count) }
+    ensures err { IfErr result (IsInstanceFault form.now binding.fixed binding.values) }
 {
-    if let Some(k) = first_unbound(form, bound, agreeing(bound)) {
+    if let Some(k) = first_unbound(form, binding, agreeing(binding)) {
         return Err(InstanceFault::Unbound(k));
     }
-    let scenario = scenario_at(alloc, form, bound.values, count)?;
+    let scenario = scenario_at(alloc, form, binding.values, count)?;
     Ok(scenario)
 }

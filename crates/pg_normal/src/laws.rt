@@ -1,7 +1,7 @@
 //! A file has one answer: its forms, which are written in one way, or one fault of its names.
 ghost use Rattle.std.specs.Prelude.{◌≡◌, List};
 ghost use Rattle.pg_text.specs.Contents.{Contents};
-ghost use Rattle.pg_normal.specs.declared.listing.Normal.{Normal};
+ghost use Rattle.pg_normal.specs.declared.normal.Normal.{Normal};
 ghost use Rattle.pg_normal.specs.declared.naming.NameFault.{NameFault as Fault};
 ghost use Rattle.pg_normal.specs.declared.naming.NameFault.TheVariants as fault;
 ghost use Rattle.pg_normal.specs.Listing.{normal_text};

@@ -1,16 +1,17 @@
 //! The forms of a file are written a line for each graph and scenario, behind the line of the parameters.
 ghost use Rattle.std.specs.Prelude.{◌≡◌, ◌++◌, codes, IfOk, OnOk};
 ghost use Rattle.line_text.specs.Lines.{text_of};
-ghost use Rattle.pg_text.specs.Writing.{row_text, with_text};
-ghost use Rattle.pg_normal.specs.Listing.{params_lines, definition_text, normal_text};
-ghost use Rattle.pg_normal.specs.Normals.{params_in, AreNormalsOf};
+ghost use Rattle.pg_text.specs.Writing.{row_text};
+ghost use Rattle.pg_normal.specs.Listing.{params_lines, definition_text, form_lines, normal_text};
+ghost use Rattle.pg_normal.specs.Naming.{IsScopeOf};
+ghost use Rattle.pg_normal.specs.Normals.{AreNormalsOf};
 ghost use Rattle.pg_normal.specs.Writing.{form_text};
 
 use crate::naming::scope_of;
 use crate::writing::put_form;
 use crate::{NormalForm, NormalList, Scope};
 use cpog_base::{Memory, Name, Names};
-use pg_text::{File, Statement, name_of, put, put_if, text_of_bindings};
+use pg_text::{File, Statement, name_of, put, put_if, put_with};
 use std::alloc::Global;
 
 /// Puts names last with commas between them.
@@ -54,23 +55,61 @@ fn put_definition(
     put_form(alloc, out, form, names, params)
 }
 
-/// Puts `with` and the bindings last, where there is one.
-fn put_with(alloc: Global, out: &mut Vec<u8>, bindings: &[(Name, bool)]) -> Result<(), Memory>
-    ensures { OnOk result (out.new.items ≡ out.old.items ++ with_text bindings.now) }
+/// Puts the line of a form last, which its statement begins.
+fn put_line(
+    alloc: Global,
+    out: &mut Vec<u8>,
+    statement: &Statement,
+    form: &NormalForm,
+    names: &Names,
+    params: &Names,
+) -> Result<(), Memory>
+    ensures { OnOk result (out.new.items ≡ out.old.items ++ text_of (form_lines names.now params.now statement.now form.now)) }
 {
-    let text = text_of_bindings(alloc, bindings)?;
-    put(out, &text)
+    match statement {
+        Statement::Params { .. } => Ok(()),
+        Statement::Graph { name, .. } => {
+            put_definition(alloc, out, b"graph ", name, form, names, params)?;
+            put(out, b"\n")
+        }
+        Statement::Scenario { name, bindings, .. } => {
+            put_definition(alloc, out, b"scenario ", name, form, names, params)?;
+            put_with(out, bindings.as_slice())?;
+            put(out, b"\n")
+        }
+    }
 }
 
-/// The parameters of a file whose names are in order.
-fn params_of(alloc: Global, file: &File) -> Result<Names, Memory>
-    ensures { IfOk result (λ params. params ≡ params_in file.now) }
+/// The text of the forms of a file: the line of its parameters, and the line of each graph and scenario with its form.
+///
+/// # Errors
+///
+/// `Memory` where none is left.
+pub fn write_forms(
+    alloc: Global,
+    file: &File,
+    scope: &Scope,
+    normals: &NormalList,
+) -> Result<Vec<u8>, Memory>
+    requires scope { IsScopeOf file.now scope.now }
+    requires forms { AreNormalsOf file.now normals.now.normals }
+    ensures { IfOk result (λ text. text.items ≡ normal_text file.now normals.now.normals) }
 {
-    match scope_of(alloc, file) {
-        Ok(Scope { params, .. }) => Ok(params),
-        // Where names are in order only memory can be wanting.
-        Err(_) => Err(Memory),
+    let names = file.operations();
+    let mut out = Vec::new(alloc);
+    put_params(&mut out, &scope.params)?;
+    'forms: for normal in normals.as_slice() {
+        let statement = file.statement(normal.origin.statement);
+        put_line(
+            alloc,
+            &mut out,
+            statement,
+            &normal.form,
+            names,
+            &scope.params,
+        )?;
     }
+    Ok(out)
 }
 
 /// The text of the forms of a file: the line of its parameters, and the line of each graph and scenario with its form.
@@ -82,28 +121,9 @@ pub fn write_normal(alloc: Global, file: &File, normals: &NormalList) -> Result<
     requires { AreNormalsOf file.now normals.now.normals }
     ensures { IfOk result (λ text. text.items ≡ normal_text file.now normals.now.normals) }
 {
-    let params = params_of(alloc, file)?;
-    let names = file.operations();
-    let mut out = Vec::new(alloc);
-    put_params(&mut out, &params)?;
-    let mut place = 0;
-    'statements: for i in 0..file.len() {
-        match file.statement(i) {
-            Statement::Params { .. } => {}
-            Statement::Graph { name, .. } => {
-                let form = normals.form(place);
-                put_definition(alloc, &mut out, b"graph ", name, form, names, &params)?;
-                put(&mut out, b"\n")?;
-                place += 1;
-            }
-            Statement::Scenario { name, bindings, .. } => {
-                let form = normals.form(place);
-                put_definition(alloc, &mut out, b"scenario ", name, form, names, &params)?;
-                put_with(alloc, &mut out, bindings.as_slice())?;
-                put(&mut out, b"\n")?;
-                place += 1;
-            }
-        }
+    match scope_of(alloc, file) {
+        Ok(scope) => write_forms(alloc, file, &scope, normals),
+        // Where names are in order only memory can be wanting.
+        Err(_) => Err(Memory),
     }
-    Ok(out)
 }

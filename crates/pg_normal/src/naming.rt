@@ -5,8 +5,10 @@ ghost use Rattle.std.specs.List.{flat_map};
 ghost use Rattle.cpog_base.specs.Names.{has_text, with_text};
 ghost use Rattle.pg_algebra.specs.Conditions.{params_of};
 ghost use Rattle.pg_normal.specs.declared.naming.NameFault.TheVariants as fault;
-ghost use Rattle.pg_normal.specs.Naming.{again, all_again, unknown_param, unknown_graph, expr_faults, binding_faults, statement_faults, name_faults, nothing, scope_after, scope_from, IsFirst, IsNameFault};
+ghost use Rattle.pg_normal.specs.Naming.{again, all_again, unknown_param, unknown_graph, expr_faults, binding_faults, statement_faults, scope_after, IsFirst, IsNameFault, IsScopeOf};
+ghost use Rattle.pg_normal.specs.Denoting.{scenario_names_of};
 
+use crate::Scope;
 use cpog_base::{Memory, Name, Names};
 use pg_algebra::{Cond, Expr};
 use pg_text::{File, Statement};
@@ -39,14 +41,6 @@ impl From<Memory> for NameFault {
     fn from(_error: Memory) -> NameFault {
         NameFault::Memory
     }
-}
-
-/// The names that lines define, by their kinds.
-#[derive(Drop)]
-pub(crate) struct Scope {
-    pub(crate) params: Names,
-    pub(crate) graphs: Names,
-    pub(crate) scenarios: Names,
 }
 
 /// Whether the name is there.
@@ -245,10 +239,15 @@ fn enter(
     }
 }
 
-/// The names that a file defines, or the first fault of names, by line, and within a line by place.
-pub(crate) fn scope_of(alloc: Global, file: &File) -> Result<Scope, NameFault>
-    ensures ok { IfOk result (λ _. name_faults file.now ≡ []) }
-    ensures scope { IfOk result (λ scope. scope ≡ scope_from nothing file.now.statements) }
+/// The names that a file defines.
+///
+/// # Errors
+///
+/// `Duplicate`, `UnknownGraph` or `UnknownParam` with the number of the line and the name, of the first fault of names
+/// in the file, by line, and within a line by place; `Memory` where none is left.
+pub fn scope_of(alloc: Global, file: &File) -> Result<Scope, NameFault>
+    ensures ok { IfOk result (IsScopeOf file.now) }
+    ensures scenarios { IfOk result (λ scope. scope.scenarios ≡ scenario_names_of file.now) }
     ensures err { IfErr result (IsNameFault file.now) }
 {
     let mut scope = Scope {
@@ -256,8 +255,8 @@ pub(crate) fn scope_of(alloc: Global, file: &File) -> Result<Scope, NameFault>
         graphs: Names::new(alloc),
         scenarios: Names::new(alloc),
     };
-    'statements: for i in 0..file.len() {
-        enter(alloc, file.line(i), &mut scope, file.statement(i))?;
+    'statements: for numbered in file.statements() {
+        enter(alloc, numbered.line, &mut scope, &numbered.statement)?;
     }
     Ok(scope)
 }

@@ -65,7 +65,7 @@ impl Row {
     }
 
     /// Whether each table of another row is 1 only where this row's is.
-    pub(crate) fn covers(&self, other: &Row) -> bool
+    pub(crate) fn contains_row(&self, other: &Row) -> bool
         requires { length other.now ≡ length self.now }
         ensures { result ≡ true → (k n : ℕ) → n < 64 → bit (slice_index other.now k) n ≡ true → bit (slice_index self.now k) n ≡ true }
     {

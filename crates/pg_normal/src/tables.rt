@@ -3,7 +3,7 @@ ghost use Rattle.std.specs.Prelude.{◌≡◌, ◌<◌, ◌&&◌, ◌||◌, ℕ,
 ghost use Rattle.cpog_defs.specs.Codes.{bit};
 ghost use Rattle.pg_normal.specs.Known.{AreJoined, IsSquare, entry};
 
-use crate::{Order, Row};
+use crate::{Appearance, Row};
 use cpog_base::Memory;
 use pg_algebra::Table;
 use sqlite_items::Items;
@@ -12,7 +12,7 @@ use std::alloc::Global;
 /// The operations in the order of first appearance, their tables, and for each second end those of arcs.
 #[derive(Drop)]
 pub(crate) struct Tables {
-    pub(crate) order: Order,
+    pub(crate) order: Appearance,
     pub(crate) vertices: Row,
     pub(crate) arcs: Items<Row>,
 }
@@ -57,7 +57,7 @@ pub(crate) fn join_once(arcs: &mut [Row], before: &Row, joined: &mut Row, here: 
     ensures joined { AreJoined before.now joined.new arcs.new }
     ensures each { (u v n : ℕ) → n < 64 → bit (entry arcs.new u v) n ≡ (bit (entry arcs.old u v) n || (bit (slice_index before.now u) n && bit (slice_index here.now v) n)) }
 {
-    if joined.covers(here) {
+    if joined.contains_row(here) {
         return;
     }
     join(arcs, before, here);
@@ -72,7 +72,7 @@ pub(crate) fn take_up(before: &mut Row, joined: &mut Row, here: &Row)
     ensures each { (v n : ℕ) → n < 64 → bit (slice_index before.new v) n ≡ (bit (slice_index before.old v) n || bit (slice_index here.now v) n) }
     ensures joined { (arcs : List (List ℕ)) → AreJoined before.old joined.old arcs → AreJoined before.new joined.new arcs }
 {
-    if before.covers(here) {
+    if before.contains_row(here) {
         return;
     }
     before.unite(here, Table::constant(true));

@@ -1,20 +1,19 @@
 //! A form is written as its terms, each behind the condition under which it occurs.
 ghost use Rattle.std.specs.Prelude.{◌≡◌, ◌++◌, ◌<◌, codes, map, IfOk, OnOk};
 ghost use Rattle.std.specs.List.{flat_map};
-ghost use Rattle.cpog_defs.specs.Codes.{bit};
 ghost use Rattle.pg_text.specs.Writing.{rest_text, row_text};
 ghost use Rattle.pg_normal.specs.Writing.{depends, needed, sets_needed, chosen, literal_text, valuation_text, valuations_text, prefix_text, arc_text, vertex_term, arc_terms, arc_terms_from, vertices_of, form_text};
 
 use crate::NormalForm;
 use crate::instances::{is_set, value_at};
-use cpog_base::{Memory, Names};
+use cpog_base::{Memory, Names, PARAM_LIMIT};
 use pg_algebra::Table;
 use pg_text::{name_of, put, put_if};
 use std::alloc::Global;
 
 /// Whether the value of the table changes with parameter k.
 fn depends_on(table: Table, k: u8) -> bool
-    requires { k < 6 }
+    requires { k < PARAM_LIMIT }
     ensures { result ≡ depends table.0 k }
 {
     table.depends(k)
@@ -60,18 +59,11 @@ fn chosen(alloc: Global, table: Table) -> Result<Vec<u8>, Memory>
     Ok(numbers)
 }
 
-/// Bit k of a word.
-fn has_bit(word: u8, k: u8) -> bool
-    ensures { result ≡ bit word k }
-{
-    k < 8 && is_set(word, k)
-}
-
 /// Puts a parameter last, with a sign before it where it is 0.
 fn put_literal(out: &mut Vec<u8>, params: &Names, n: u8, k: u8) -> Result<(), Memory>
     ensures { OnOk result (out.new.items ≡ out.old.items ++ literal_text params.now n k) }
 {
-    put_if(out, !has_bit(n, k), b"!")?;
+    put_if(out, !is_set(n, k), b"!")?;
     put(out, name_of(params, u32::from(k)).as_bytes())
 }
 

@@ -9,8 +9,8 @@ use Rattle.std.proofs.lemmas.List.Quantifiers.{position-Some}
 use Rattle.std.proofs.lemmas.Slice.Eq.{bytes_eq-Decides}
 use Rattle.cpog_base.specs.Names.{has_text, with_text}
 use Rattle.cpog_base.proofs.NamesLemmas.{place-with_text}
-use Rattle.pg_text.specs.declared.place.Place.{Place}
-use Rattle.pg_text.specs.declared.place.Place.TheVariants as place
+use Rattle.pg_text.specs.declared.position.Position.{Position}
+use Rattle.pg_text.specs.declared.position.Position.TheVariants as position
 use Rattle.pg_text.specs.Grammar.{Side, condition, graph, Row, product, sum, Level, factor, row, member, Phrase, single, joined, named, group, bit, negated, empty, reference, under, names_after, Tree, join, members, tree}
 use Rattle.pg_text.specs.Writing.{placed, bit_text, cond_text, expr_text, rest_text, row_text}
 use Rattle.pg_text.proofs.RowTexts.{text-Not, text-And, text-Or, text-When, text-Overlay, text-Sequence}
@@ -78,12 +78,12 @@ written empty = codes "empty"
 written (reference w) = codes "@" ++ w
 written (under c x) = codes "[" ++ (written c ++ (codes "] " ++ written x))
 
-abbrev pub place_of : Level → Place
-place_of factor = place.Factor
-place_of (row product) = place.Product
-place_of (row sum) = place.Sum
+abbrev pub position_of : Level → Position
+position_of factor = position.Factor
+position_of (row product) = position.Product
+position_of (row sum) = position.Sum
 
-abbrev pub tree_text : (s : Side) → List (List ℕ) → Place → Tree s → List ℕ
+abbrev pub tree_text : (s : Side) → List (List ℕ) → Position → Tree s → List ℕ
 tree_text condition final p c = cond_text p c
 tree_text graph final p e = expr_text final p e
 
@@ -92,7 +92,7 @@ written-factor factor x = refl
 written-factor (row product) x = refl
 written-factor (row sum) x = refl
 
-written-row : {s : Side} (l : Level) (r : Row) (p : Phrase s (row r)) → written (fit l (as_row r p)) ≡ placed (place_of l) r (written p)
+written-row : {s : Side} (l : Level) (r : Row) (p : Phrase s (row r)) → written (fit l (as_row r p)) ≡ placed (position_of l) r (written p)
 written-row factor product p = refl
 written-row factor sum p = refl
 written-row (row product) product p = sym (append-nil (written p))
@@ -102,16 +102,16 @@ written-row (row sum) sum p = sym (append-nil (written p))
 
 -- ---- rows of trees
 
-text-join : (s : Side) (r : Row) (final : List (List ℕ)) (p : Place) (t u : Tree s) (us : List (Tree s))
-    → tree_text s final p (join s (row r) (t ∷ (u ∷ us))) ≡ placed p r (row_text (joint_text s r) (map (tree_text s final (place_of (member r))) (t ∷ (u ∷ us))))
+text-join : (s : Side) (r : Row) (final : List (List ℕ)) (p : Position) (t u : Tree s) (us : List (Tree s))
+    → tree_text s final p (join s (row r) (t ∷ (u ∷ us))) ≡ placed p r (row_text (joint_text s r) (map (tree_text s final (position_of (member r))) (t ∷ (u ∷ us))))
 text-join condition product final p t u us = text-And p (t ∷ (u ∷ us))
 text-join condition sum final p t u us = text-Or p (t ∷ (u ∷ us))
 text-join graph product final p t u us = text-Sequence final p (t ∷ (u ∷ us))
 text-join graph sum final p t u us = text-Overlay final p (t ∷ (u ∷ us))
 
 -- a row has a first member
-text-joined : {s : Side} (r : Row) (names final : List (List ℕ)) (p : Place) (t : Tree s) (y : Phrase s (row r))
-    → tree_text s final p (join s (row r) (t ∷ members names y)) ≡ placed p r (row_text (joint_text s r) (map (tree_text s final (place_of (member r))) (t ∷ members names y)))
+text-joined : {s : Side} (r : Row) (names final : List (List ℕ)) (p : Position) (t : Tree s) (y : Phrase s (row r))
+    → tree_text s final p (join s (row r) (t ∷ members names y)) ≡ placed p r (row_text (joint_text s r) (map (tree_text s final (position_of (member r))) (t ∷ members names y)))
 text-joined {s} r names final p t (single _ x) = text-join s r final p t (join s (member r) (members names x)) []
 text-joined {s} r names final p t (joined _ x y) = text-join s r final p t (join s (member r) (members names x)) (members (names_after names x) y)
 
@@ -122,30 +122,30 @@ rest-row r names f sign (joined _ x y) = refl
 -- ---- the text of a tree
 
 mutual
-  pub written-plain : {s : Side} {k : Level} (final names : List (List ℕ)) (l : Level) (p : Phrase s k) → Extends (names_after names p) final → written (fit l (natural p)) ≡ tree_text s final (place_of l) (tree names p)
-  written-plain final names l (single {s} r x) h = written-plain final names l x h ∙ ap (tree_text s final (place_of l)) (sym (one s (row r) (tree names x)))
+  pub written-plain : {s : Side} {k : Level} (final names : List (List ℕ)) (l : Level) (p : Phrase s k) → Extends (names_after names p) final → written (fit l (natural p)) ≡ tree_text s final (position_of l) (tree names p)
+  written-plain final names l (single {s} r x) h = written-plain final names l x h ∙ ap (tree_text s final (position_of l)) (sym (one s (row r) (tree names x)))
   written-plain final names l (joined {s} r x y) h =
       written-row l r (joined r (fit (member r) (natural x)) (rows y))
-      ∙ ap (placed (place_of l) r) (
+      ∙ ap (placed (position_of l) r) (
       ap₂ (λ a b. a ++ (joint_text s r ++ b)) (written-plain final names (member r) x (extends-more (names_after names x) (names_after (names_after names x) y) final (extends-names (names_after names x) y) h)) (written-rows final (names_after names x) r y h)
-      ∙ ap (λ b. tree_text s final (place_of (member r)) (tree names x) ++ b) (sym (rest-row r (names_after names x) (tree_text s final (place_of (member r))) (joint_text s r) y))
+      ∙ ap (λ b. tree_text s final (position_of (member r)) (tree names x) ++ b) (sym (rest-row r (names_after names x) (tree_text s final (position_of (member r))) (joint_text s r) y))
       )
-      ∙ sym (text-joined r (names_after names x) final (place_of l) (tree names x) y)
+      ∙ sym (text-joined r (names_after names x) final (position_of l) (tree names x) y)
   written-plain final names l (named {s = condition} w) h = written-factor l (named w)
   written-plain final names l (named {s = graph} w) h = written-factor l (named w) ∙ sym (name_at_place names final w h)
-  written-plain final names l (group {s} x) h = written-plain final names l x h ∙ ap (tree_text s final (place_of l)) (sym (one s factor (tree names x)))
+  written-plain final names l (group {s} x) h = written-plain final names l x h ∙ ap (tree_text s final (position_of l)) (sym (one s factor (tree names x)))
   written-plain final names l (bit b) h = written-factor l (bit b)
   written-plain final names l (negated x) h =
-      written-factor l (negated (fit factor (natural x))) ∙ ap (λ t. codes "!" ++ t) (written-plain (names_after names x) names factor x (extends-self (names_after names x))) ∙ sym (text-Not (place_of l) (tree names x))
+      written-factor l (negated (fit factor (natural x))) ∙ ap (λ t. codes "!" ++ t) (written-plain (names_after names x) names factor x (extends-self (names_after names x))) ∙ sym (text-Not (position_of l) (tree names x))
   written-plain final names l empty h = written-factor l empty
   written-plain final names l (reference w) h = written-factor l (reference w)
   written-plain final names l (under c x) h =
       written-factor l (under (fit (row sum) (natural c)) (fit factor (natural x)))
       ∙ ap₂ (λ a b. codes "[" ++ (a ++ (codes "] " ++ b))) (written-plain (names_after [] c) [] (row sum) c (extends-self (names_after [] c))) (written-plain final names factor x h)
-      ∙ sym (text-When final (place_of l) (tree [] c) (tree names x))
+      ∙ sym (text-When final (position_of l) (tree [] c) (tree names x))
 
-  written-rows : {s : Side} (final names : List (List ℕ)) (r : Row) (p : Phrase s (row r)) → Extends (names_after names p) final → written (rows p) ≡ row_text (joint_text s r) (map (tree_text s final (place_of (member r))) (members names p))
+  written-rows : {s : Side} (final names : List (List ℕ)) (r : Row) (p : Phrase s (row r)) → Extends (names_after names p) final → written (rows p) ≡ row_text (joint_text s r) (map (tree_text s final (position_of (member r))) (members names p))
   written-rows final names r (single _ x) h = written-plain final names (member r) x h ∙ sym (append-nil _)
   written-rows {s} final names r (joined _ x y) h =
       ap₂ (λ a b. a ++ (joint_text s r ++ b)) (written-plain final names (member r) x (extends-more (names_after names x) (names_after (names_after names x) y) final (extends-names (names_after names x) y) h)) (written-rows final (names_after names x) r y h)
-      ∙ ap (λ b. tree_text s final (place_of (member r)) (tree names x) ++ b) (sym (rest-row r (names_after names x) (tree_text s final (place_of (member r))) (joint_text s r) y))
+      ∙ ap (λ b. tree_text s final (position_of (member r)) (tree names x) ++ b) (sym (rest-row r (names_after names x) (tree_text s final (position_of (member r))) (joint_text s r) y))

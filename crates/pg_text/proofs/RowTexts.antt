@@ -12,54 +12,54 @@ use Rattle.pg_algebra.specs.declared.cond.Cond.TheViews as cond
 use Rattle.pg_algebra.specs.declared.expr.Expr.{Expr}
 use Rattle.pg_algebra.specs.declared.expr.Expr.TheBlock.{hidden-the_row-Expr-1}
 use Rattle.pg_algebra.specs.declared.expr.Expr.TheViews as expr
-use Rattle.pg_text.specs.declared.place.Place.{Place}
-use Rattle.pg_text.specs.declared.place.Place.TheVariants as place
+use Rattle.pg_text.specs.declared.position.Position.{Position}
+use Rattle.pg_text.specs.declared.position.Position.TheVariants as position
 use Rattle.pg_text.specs.Grammar.{product, sum}
 use Rattle.pg_text.specs.Writing.{when_needed, placed, cond_text, cond_row, cond_rest, expr_text, expr_row, expr_rest, rest_text, row_text}
 
-cond_rest-members : (sign : List ℕ) (p : Place) (cs : List Cond) → cond_rest sign p (hidden-the_row-Cond-1 cs) ≡ rest_text sign (map (cond_text p) cs)
+cond_rest-members : (sign : List ℕ) (p : Position) (cs : List Cond) → cond_rest sign p (hidden-the_row-Cond-1 cs) ≡ rest_text sign (map (cond_text p) cs)
 unfolding hidden-the_row-Cond-1 hidden
 cond_rest-members sign p [] = refl
 cond_rest-members sign p (c ∷ cs) = ap (λ t. sign ++ (cond_text p c ++ t)) (cond_rest-members sign p cs)
 
-cond_row-members : (sign : List ℕ) (p : Place) (cs : List Cond) → cond_row sign p (hidden-the_row-Cond-1 cs) ≡ row_text sign (map (cond_text p) cs)
+cond_row-members : (sign : List ℕ) (p : Position) (cs : List Cond) → cond_row sign p (hidden-the_row-Cond-1 cs) ≡ row_text sign (map (cond_text p) cs)
 unfolding hidden-the_row-Cond-1 hidden
 cond_row-members sign p [] = refl
 cond_row-members sign p (c ∷ cs) = ap (λ t. cond_text p c ++ t) (cond_rest-members sign p cs)
 
-pub text-Not : (p : Place) (c : Cond) → cond_text p (cond.Not c) ≡ codes "!" ++ cond_text place.Factor c
+pub text-Not : (p : Position) (c : Cond) → cond_text p (cond.Not c) ≡ codes "!" ++ cond_text position.Factor c
 unfolding hidden-the_row-Cond-1 hidden
 text-Not p c = refl
 
-pub text-And : (p : Place) (cs : List Cond) → cond_text p (cond.And (record { members = cs })) ≡ placed p product (row_text (codes " & ") (map (cond_text place.Factor) cs))
+pub text-And : (p : Position) (cs : List Cond) → cond_text p (cond.And (record { members = cs })) ≡ placed p product (row_text (codes " & ") (map (cond_text position.Factor) cs))
 unfolding hidden-the_row-Cond-1 hidden
-text-And p cs = ap (placed p product) (cond_row-members (codes " & ") place.Factor cs)
+text-And p cs = ap (placed p product) (cond_row-members (codes " & ") position.Factor cs)
 
-pub text-Or : (p : Place) (cs : List Cond) → cond_text p (cond.Or (record { members = cs })) ≡ placed p sum (row_text (codes " | ") (map (cond_text place.Product) cs))
+pub text-Or : (p : Position) (cs : List Cond) → cond_text p (cond.Or (record { members = cs })) ≡ placed p sum (row_text (codes " | ") (map (cond_text position.Product) cs))
 unfolding hidden-the_row-Cond-1 hidden
-text-Or p cs = ap (placed p sum) (cond_row-members (codes " | ") place.Product cs)
+text-Or p cs = ap (placed p sum) (cond_row-members (codes " | ") position.Product cs)
 
-expr_rest-members : (names : List (List ℕ)) (sign : List ℕ) (p : Place) (es : List Expr) → expr_rest names sign p (hidden-the_row-Expr-1 es) ≡ rest_text sign (map (expr_text names p) es)
+expr_rest-members : (names : List (List ℕ)) (sign : List ℕ) (p : Position) (es : List Expr) → expr_rest names sign p (hidden-the_row-Expr-1 es) ≡ rest_text sign (map (expr_text names p) es)
 unfolding hidden-the_row-Expr-1 hidden
 expr_rest-members names sign p [] = refl
 expr_rest-members names sign p (e ∷ es) = ap (λ t. sign ++ (expr_text names p e ++ t)) (expr_rest-members names sign p es)
 
-expr_row-members : (names : List (List ℕ)) (sign : List ℕ) (p : Place) (es : List Expr) → expr_row names sign p (hidden-the_row-Expr-1 es) ≡ row_text sign (map (expr_text names p) es)
+expr_row-members : (names : List (List ℕ)) (sign : List ℕ) (p : Position) (es : List Expr) → expr_row names sign p (hidden-the_row-Expr-1 es) ≡ row_text sign (map (expr_text names p) es)
 unfolding hidden-the_row-Expr-1 hidden
 expr_row-members names sign p [] = refl
 expr_row-members names sign p (e ∷ es) = ap (λ t. expr_text names p e ++ t) (expr_rest-members names sign p es)
 
-pub text-When : (names : List (List ℕ)) (p : Place) (c : Cond) (e : Expr) → expr_text names p (expr.When c e) ≡ codes "[" ++ (cond_text place.Sum c ++ (codes "] " ++ expr_text names place.Factor e))
+pub text-When : (names : List (List ℕ)) (p : Position) (c : Cond) (e : Expr) → expr_text names p (expr.When c e) ≡ codes "[" ++ (cond_text position.Sum c ++ (codes "] " ++ expr_text names position.Factor e))
 unfolding hidden-the_row-Expr-1 hidden
 text-When names p c e = refl
 
-pub text-Overlay : (names : List (List ℕ)) (p : Place) (es : List Expr) → expr_text names p (expr.Overlay (record { members = es })) ≡ placed p sum (row_text (codes " + ") (map (expr_text names place.Product) es))
+pub text-Overlay : (names : List (List ℕ)) (p : Position) (es : List Expr) → expr_text names p (expr.Overlay (record { members = es })) ≡ placed p sum (row_text (codes " + ") (map (expr_text names position.Product) es))
 unfolding hidden-the_row-Expr-1 hidden
-text-Overlay names p es = ap (placed p sum) (expr_row-members names (codes " + ") place.Product es)
+text-Overlay names p es = ap (placed p sum) (expr_row-members names (codes " + ") position.Product es)
 
-pub text-Sequence : (names : List (List ℕ)) (p : Place) (es : List Expr) → expr_text names p (expr.Sequence (record { members = es })) ≡ placed p product (row_text (codes " -> ") (map (expr_text names place.Factor) es))
+pub text-Sequence : (names : List (List ℕ)) (p : Position) (es : List Expr) → expr_text names p (expr.Sequence (record { members = es })) ≡ placed p product (row_text (codes " -> ") (map (expr_text names position.Factor) es))
 unfolding hidden-the_row-Expr-1 hidden
-text-Sequence names p es = ap (placed p product) (expr_row-members names (codes " -> ") place.Factor es)
+text-Sequence names p es = ap (placed p product) (expr_row-members names (codes " -> ") position.Factor es)
 
 -- ---- one member more
 

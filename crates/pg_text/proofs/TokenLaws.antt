@@ -17,7 +17,7 @@ use Rattle.pg_text.specs.declared.sign.Sign.TheVariants as signs
 use Rattle.pg_text.specs.declared.sign.Fixed.{Fixed}
 use Rattle.pg_text.specs.declared.sign.Fixed.TheVariants as words
 use Rattle.line_text.specs.Words.{continues_name, is_free_name}
-use Rattle.pg_text.specs.Tokens.{Token, name, word, sign, bit_word, sign_text, word_text, is_blank, IsRun, StartsWith, BeginsWith, IsComment, HasNoToken}
+use Rattle.pg_text.specs.Tokens.{Token, name, word, sign, bit_word, sign_text, word_text, is_blank, IsRun, StartsWith, BeginsWith, EndsHere, HasNoToken}
 use Rattle.pg_text.proofs.Runs.{same_run}
 
 -- bytes of a word are ASCII
@@ -203,11 +203,11 @@ same_start bytes (sign s) (sign t) rest more h k = let e = same_sign bytes s t r
 
 -- ---- a comment is no token
 
-no_comment : (bytes : List ℕ) → IsComment bytes → (continues_name (first bytes) ≡ false) × (starts (first bytes) ≡ false)
+no_comment : (bytes : List ℕ) → EndsHere bytes → (continues_name (first bytes) ≡ false) × (starts (first bytes) ≡ false)
 no_comment [] c = (refl, refl)
 no_comment (b ∷ bs) c = (ap continues_name c, ap starts c)
 
-no_start : (bytes : List ℕ) (t : Token) (rest : List ℕ) → IsComment bytes → StartsWith bytes t rest → ⊥
+no_start : (bytes : List ℕ) (t : Token) (rest : List ℕ) → EndsHere bytes → StartsWith bytes t rest → ⊥
 no_start bytes (name w) rest c h = both_ways (continues_name (first bytes)) (no_comment bytes c).0 (word_first bytes w rest (free-some w h.0) h.1)
 no_start bytes (word w) rest c h = both_ways (continues_name (first bytes)) (no_comment bytes c).0 (word_first bytes (word_text w) rest (word-some w) h)
 no_start bytes (sign s) rest c h = both_ways (starts (first bytes)) (no_comment bytes c).1 (ap (λ b. starts (first b)) h ∙ sign_starts s rest)
@@ -217,8 +217,8 @@ no_start bytes (sign s) rest c h = both_ways (starts (first bytes)) (no_comment 
 pub start_after : (bytes blanks after : List ℕ) (t : Token) (rest : List ℕ) → IsRun is_blank bytes blanks after → BeginsWith bytes t rest → StartsWith after t rest
 start_after bytes blanks after t rest run b = subst (λ x. StartsWith x t rest) (same_run is_blank bytes b.blanks blanks b.after after b.run run).1 b.token
 
-pub comment_after : (bytes blanks after : List ℕ) → IsRun is_blank bytes blanks after → HasNoToken bytes → IsComment after
-comment_after bytes blanks after run h = subst IsComment (same_run is_blank bytes h.blanks blanks h.after after h.run run).1 h.comment
+pub comment_after : (bytes blanks after : List ℕ) → IsRun is_blank bytes blanks after → HasNoToken bytes → EndsHere after
+comment_after bytes blanks after run h = subst EndsHere (same_run is_blank bytes h.blanks blanks h.after after h.run run).1 h.comment
 
 pub same_token : (bytes : List ℕ) (t u : Token) (rest more : List ℕ) → BeginsWith bytes t rest → BeginsWith bytes u more → (t ≡ u) × (rest ≡ more)
 same_token bytes t u rest more h k = same_start k.after t u rest more (start_after bytes k.blanks k.after t rest k.run h) k.token
@@ -238,7 +238,7 @@ token-shorter bytes t rest h = omega (arith, start-shorter h.after t rest h.toke
 
 -- ---- what is said of the bytes after the blanks holds of all
 
-pub ended_after : (bytes blanks after : List ℕ) (b : Bool) → IsRun is_blank bytes blanks after → MatchBool b (IsComment after) (IsComment after → ⊥) → MatchBool b (HasNoToken bytes) (HasNoToken bytes → ⊥)
+pub ended_after : (bytes blanks after : List ℕ) (b : Bool) → IsRun is_blank bytes blanks after → MatchBool b (EndsHere after) (EndsHere after → ⊥) → MatchBool b (HasNoToken bytes) (HasNoToken bytes → ⊥)
 ended_after bytes blanks after true run h = record { blanks = blanks; after = after; run = run; comment = h }
 ended_after bytes blanks after false run h = λ none. h (comment_after bytes blanks after run none)
 

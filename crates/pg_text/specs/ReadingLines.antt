@@ -1,5 +1,6 @@
 -- What is read of a line, and the rest.
 use Rattle.std.specs.Prelude.{◌≡◌, ℕ, Bool, List, [], ◌∷◌, ◌++◌, Option}
+use Rattle.cpog_base.specs.declared.limits.TheConstants.{NESTING_LIMIT}
 use Rattle.pg_algebra.specs.declared.expr.Expr.{Expr}
 use Rattle.pg_text.specs.declared.sign.Sign.TheVariants as signs
 use Rattle.pg_text.specs.declared.sign.Fixed.TheVariants as words
@@ -35,7 +36,7 @@ NoWith bytes = (bs : List (List ℕ × Bool)) (rest : List ℕ) → BeginsWithAl
 -- `NAME = expr` stands at the front
 pub record IsDefinition (bytes : List ℕ) (w : List ℕ) (p : Phrase graph (row sum)) (rest : List ℕ) : Type 0 where
   pub spelled : BeginsWithAll bytes (left_tokens w ++ tokens p) rest
-  pub within : IsWithin 100 p
+  pub within : IsWithin NESTING_LIMIT p
   pub stops : Stops graph (row sum) rest
 
 pub record ReadsDefinition (names : List (List ℕ)) (bytes : List ℕ) (w : List ℕ) (t : Expr) (names_new : List (List ℕ)) (rest : List ℕ) : Type 0 where

@@ -1,5 +1,6 @@
 -- The grammar of a whole line: what stands in it, its tokens, its tree, and the operation names after it.
 use Rattle.std.specs.Prelude.{ℕ, Bool, List, [], ◌∷◌, ◌++◌, Option, Some, None}
+use Rattle.cpog_base.specs.declared.limits.TheConstants.{NESTING_LIMIT}
 use Rattle.pg_text.specs.declared.sign.Sign.TheVariants as signs
 use Rattle.pg_text.specs.declared.sign.Fixed.TheVariants as words
 use Rattle.pg_text.specs.declared.statement.Statement.{Statement}
@@ -41,12 +42,12 @@ sentence_tokens (params_line w ws) = word words.Params ∷ commas name_tokens w 
 sentence_tokens (graph_line w x) = word words.Graph ∷ (left_tokens w ++ tokens x)
 sentence_tokens (scenario_line w x bs) = word words.Scenario ∷ (left_tokens w ++ (tokens x ++ with_tokens bs))
 
--- ---- nesting: no token is deeper than 100 levels
+-- ---- nesting: no token is deeper than the limit
 
 abbrev pub IsShallow : Sentence → Type 0
 IsShallow (params_line w ws) = Unit {0}
-IsShallow (graph_line w x) = IsWithin 100 x
-IsShallow (scenario_line w x bs) = IsWithin 100 x
+IsShallow (graph_line w x) = IsWithin NESTING_LIMIT x
+IsShallow (scenario_line w x bs) = IsWithin NESTING_LIMIT x
 
 -- the line is this statement
 abbrev pub IsSentence : Sentence → List ℕ → Type 0

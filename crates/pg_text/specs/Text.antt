@@ -1,5 +1,6 @@
 -- A whole text: the file that it spells, and why it spells none.
 use Rattle.std.specs.Prelude.{◌≡◌, ℕ, ◌+◌, ◌<◌, ◌≤◌, List, [], ◌∷◌, length, sum_by, Option, Some, None}
+use Rattle.cpog_base.specs.declared.limits.TheConstants.{PARAM_LIMIT, GRAPH_LIMIT, SCENARIO_LIMIT, OPERATION_LIMIT}
 use Rattle.cpog_base.specs.declared.limits.Counted.{Counted}
 use Rattle.cpog_base.specs.declared.limits.Counted.TheVariants as counted
 use Rattle.pg_text.specs.declared.statement.Statement.{Statement}
@@ -60,10 +61,10 @@ count_of what statements = sum_by (λ s. count_in what s.statement) statements
 -- the text spells the file, and its counts are within the limits
 pub record IsFileOf (bytes : List ℕ) (f : Contents) : Type 0 where
   pub reads : IsReadAs bytes f
-  pub few_params : count_of counted.Params f.statements ≤ 6
-  pub few_graphs : count_of counted.Graphs f.statements ≤ 256
-  pub few_scenarios : count_of counted.Scenarios f.statements ≤ 64
-  pub few_operations : length f.operations ≤ 64
+  pub few_params : count_of counted.Params f.statements ≤ PARAM_LIMIT
+  pub few_graphs : count_of counted.Graphs f.statements ≤ GRAPH_LIMIT
+  pub few_scenarios : count_of counted.Scenarios f.statements ≤ SCENARIO_LIMIT
+  pub few_operations : length f.operations ≤ OPERATION_LIMIT
 
 -- a file that some text spells
 abbrev pub IsFile : Contents → Type 0
@@ -73,12 +74,12 @@ IsFile f = (bytes : List ℕ) × IsFileOf bytes f
 
 -- the count that is the first to pass its limit, and that limit
 abbrev pub IsFirstPassed : Contents → Counted → ℕ → Type 0
-IsFirstPassed f counted.Params limit = (6 < count_of counted.Params f.statements) × (limit ≡ 6)
-IsFirstPassed f counted.Graphs limit = (count_of counted.Params f.statements ≤ 6) × (256 < count_of counted.Graphs f.statements) × (limit ≡ 256)
+IsFirstPassed f counted.Params limit = (PARAM_LIMIT < count_of counted.Params f.statements) × (limit ≡ PARAM_LIMIT)
+IsFirstPassed f counted.Graphs limit = (count_of counted.Params f.statements ≤ PARAM_LIMIT) × (GRAPH_LIMIT < count_of counted.Graphs f.statements) × (limit ≡ GRAPH_LIMIT)
 IsFirstPassed f counted.Scenarios limit =
-    (count_of counted.Params f.statements ≤ 6) × (count_of counted.Graphs f.statements ≤ 256) × (64 < count_of counted.Scenarios f.statements) × (limit ≡ 64)
+    (count_of counted.Params f.statements ≤ PARAM_LIMIT) × (count_of counted.Graphs f.statements ≤ GRAPH_LIMIT) × (SCENARIO_LIMIT < count_of counted.Scenarios f.statements) × (limit ≡ SCENARIO_LIMIT)
 IsFirstPassed f counted.Operations limit =
-    (count_of counted.Params f.statements ≤ 6) × (count_of counted.Graphs f.statements ≤ 256) × (count_of counted.Scenarios f.statements ≤ 64) × (64 < length f.operations) × (limit ≡ 64)
+    (count_of counted.Params f.statements ≤ PARAM_LIMIT) × (count_of counted.Graphs f.statements ≤ GRAPH_LIMIT) × (count_of counted.Scenarios f.statements ≤ SCENARIO_LIMIT) × (OPERATION_LIMIT < length f.operations) × (limit ≡ OPERATION_LIMIT)
 IsFirstPassed f counted.Input limit = ⊥
 IsFirstPassed f counted.Bits limit = ⊥
 IsFirstPassed f counted.Template limit = ⊥

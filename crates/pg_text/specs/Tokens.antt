@@ -70,16 +70,16 @@ pub record BeginsWith (bytes : List ℕ) (t : Token) (rest : List ℕ) : Type 0 
   pub token : StartsWith after t rest
 
 -- nothing, or a comment: `#` and whatever bytes
-abbrev pub IsComment : List ℕ → Type 0
-IsComment [] = Unit {0}
-IsComment (b ∷ bs) = b ≡ 35
+abbrev pub EndsHere : List ℕ → Type 0
+EndsHere [] = Unit {0}
+EndsHere (b ∷ bs) = b ≡ 35
 
 -- blanks alone, or blanks and a comment
 pub record HasNoToken (bytes : List ℕ) : Type 0 where
   pub blanks : List ℕ
   pub after : List ℕ
   pub run : IsRun is_blank bytes blanks after
-  pub comment : IsComment after
+  pub comment : EndsHere after
 
 -- the bytes begin with these tokens, and then comes the rest
 abbrev pub BeginsWithAll : List ℕ → List Token → List ℕ → Type 0

@@ -4,8 +4,8 @@ use Rattle.std.proofs.Common.{get_or}
 use Rattle.line_text.specs.Lines.{text_of}
 use Rattle.pg_algebra.specs.declared.cond.Cond.{Cond, Bit, Param, Not', And', Or', Row_of-Cond, end_of-Cond, more_of-Cond}
 use Rattle.pg_algebra.specs.declared.expr.Expr.{Expr, Empty, Op, Graph, When', Overlay', Sequence', Row_of-Expr, end_of-Expr, more_of-Expr}
-use Rattle.pg_text.specs.declared.place.Place.{Place}
-use Rattle.pg_text.specs.declared.place.Place.TheVariants as place
+use Rattle.pg_text.specs.declared.position.Position.{Position}
+use Rattle.pg_text.specs.declared.position.Position.TheVariants as position
 use Rattle.pg_text.specs.declared.statement.Statement.{Statement}
 use Rattle.pg_text.specs.declared.statement.Statement.TheVariants as statement
 use Rattle.pg_text.specs.declared.statement.Numbered.{Numbered}
@@ -18,13 +18,13 @@ when_needed false text = []
 when_needed true text = text
 
 -- whether a row needs parentheses in the place: a sum in a sum, in a product and behind a prefix, and a product in a product and behind a prefix
-abbrev pub needs : Place → Row → Bool
-needs place.Sum r = false
-needs place.Product product = false
-needs place.Product sum = true
-needs place.Factor r = true
+abbrev pub needs : Position → Row → Bool
+needs position.Sum r = false
+needs position.Product product = false
+needs position.Product sum = true
+needs position.Factor r = true
 
-abbrev pub placed : Place → Row → List ℕ → List ℕ
+abbrev pub placed : Position → Row → List ℕ → List ℕ
 placed p r text = when_needed (needs p r) (codes "(") ++ (text ++ when_needed (needs p r) (codes ")"))
 
 abbrev pub bit_text : Bool → List ℕ
@@ -34,38 +34,38 @@ bit_text true = codes "1"
 -- ---- conditions
 
 abbrev mutual
-  pub cond_text : Place → Cond → List ℕ
+  pub cond_text : Position → Cond → List ℕ
   cond_text p (Bit b) = bit_text b
   cond_text p (Param w) = w
-  cond_text p (Not' shape (more_of-Cond c end_of-Cond)) = codes "!" ++ cond_text place.Factor c
-  cond_text p (And' shape members) = placed p product (cond_row (codes " & ") place.Factor members)
-  cond_text p (Or' shape members) = placed p sum (cond_row (codes " | ") place.Product members)
+  cond_text p (Not' shape (more_of-Cond c end_of-Cond)) = codes "!" ++ cond_text position.Factor c
+  cond_text p (And' shape members) = placed p product (cond_row (codes " & ") position.Factor members)
+  cond_text p (Or' shape members) = placed p sum (cond_row (codes " | ") position.Product members)
 
   -- members with a sign between them
-  pub cond_row : {m : _} → List ℕ → Place → Row_of-Cond m → List ℕ
+  pub cond_row : {m : _} → List ℕ → Position → Row_of-Cond m → List ℕ
   cond_row sign p end_of-Cond = []
   cond_row sign p (more_of-Cond c rest) = cond_text p c ++ cond_rest sign p rest
 
-  pub cond_rest : {m : _} → List ℕ → Place → Row_of-Cond m → List ℕ
+  pub cond_rest : {m : _} → List ℕ → Position → Row_of-Cond m → List ℕ
   cond_rest sign p end_of-Cond = []
   cond_rest sign p (more_of-Cond c rest) = sign ++ (cond_text p c ++ cond_rest sign p rest)
 
 -- ---- expressions over named operations
 
 abbrev mutual
-  pub expr_text : List (List ℕ) → Place → Expr → List ℕ
+  pub expr_text : List (List ℕ) → Position → Expr → List ℕ
   expr_text names p Empty = codes "empty"
   expr_text names p (Op n) = get_or names n []
   expr_text names p (Graph w) = codes "@" ++ w
-  expr_text names p (When' c shape (more_of-Expr e end_of-Expr)) = codes "[" ++ (cond_text place.Sum c ++ (codes "] " ++ expr_text names place.Factor e))
-  expr_text names p (Overlay' shape members) = placed p sum (expr_row names (codes " + ") place.Product members)
-  expr_text names p (Sequence' shape members) = placed p product (expr_row names (codes " -> ") place.Factor members)
+  expr_text names p (When' c shape (more_of-Expr e end_of-Expr)) = codes "[" ++ (cond_text position.Sum c ++ (codes "] " ++ expr_text names position.Factor e))
+  expr_text names p (Overlay' shape members) = placed p sum (expr_row names (codes " + ") position.Product members)
+  expr_text names p (Sequence' shape members) = placed p product (expr_row names (codes " -> ") position.Factor members)
 
-  pub expr_row : {m : _} → List (List ℕ) → List ℕ → Place → Row_of-Expr m → List ℕ
+  pub expr_row : {m : _} → List (List ℕ) → List ℕ → Position → Row_of-Expr m → List ℕ
   expr_row names sign p end_of-Expr = []
   expr_row names sign p (more_of-Expr e rest) = expr_text names p e ++ expr_rest names sign p rest
 
-  pub expr_rest : {m : _} → List (List ℕ) → List ℕ → Place → Row_of-Expr m → List ℕ
+  pub expr_rest : {m : _} → List (List ℕ) → List ℕ → Position → Row_of-Expr m → List ℕ
   expr_rest names sign p end_of-Expr = []
   expr_rest names sign p (more_of-Expr e rest) = sign ++ (expr_text names p e ++ expr_rest names sign p rest)
 
@@ -89,8 +89,8 @@ with_text (b ∷ bs) = codes " with " ++ row_text (codes ", ") (map bind_text (b
 
 abbrev pub statement_text : List (List ℕ) → Statement → List ℕ
 statement_text names (statement.Params ws) = codes "params " ++ row_text (codes ", ") ws
-statement_text names (statement.Graph w e) = codes "graph " ++ (w ++ (codes " = " ++ expr_text names place.Sum e))
-statement_text names (statement.Scenario w e bs) = codes "scenario " ++ (w ++ (codes " = " ++ (expr_text names place.Sum e ++ with_text bs)))
+statement_text names (statement.Graph w e) = codes "graph " ++ (w ++ (codes " = " ++ expr_text names position.Sum e))
+statement_text names (statement.Scenario w e bs) = codes "scenario " ++ (w ++ (codes " = " ++ (expr_text names position.Sum e ++ with_text bs)))
 
 -- a line for each statement
 abbrev pub file_text : Contents → List ℕ

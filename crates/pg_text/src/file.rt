@@ -53,6 +53,13 @@ impl File {
         self.statements.len() as u32
     }
 
+    /// The statements with the numbers of their lines, in the order of the text.
+    pub fn statements(&self) -> &[Numbered]
+        ensures { result.now ≡ self.now.statements }
+    {
+        self.statements.as_slice()
+    }
+
     /// A statement, by its place.
     pub fn statement(&self, i: u32) -> &Statement
         requires { i < length self.now.statements }

@@ -1,6 +1,6 @@
 //! What every graph text is put together from, behind the bytes that are there: bytes, names and bindings. A file
 //! (`writing`) and the normal forms of one are written by these.
-ghost use Rattle.std.specs.Prelude.{◌≡◌, ◌++◌, [], codes, map, IfOk, OnOk, OnErr};
+ghost use Rattle.std.specs.Prelude.{◌≡◌, ◌++◌, [], codes, map, OnOk, OnErr};
 ghost use Rattle.std.proofs.Common.{get_or};
 ghost use Rattle.pg_text.specs.Writing.{bit_text, with_text, row_text, bind_text, when_needed};
 
@@ -72,22 +72,13 @@ fn put_bindings(out: &mut Vec<u8>, bindings: &[(Name, bool)]) -> Result<(), Memo
 }
 
 /// Puts `with` and the bindings last, where there is one.
-pub(crate) fn put_with(out: &mut Vec<u8>, bindings: &[(Name, bool)]) -> Result<(), Memory>
-    ensures { OnOk result (out.new.items ≡ out.old.items ++ with_text bindings.now) }
-{
-    put_if(out, !bindings.is_empty(), b" with ")?;
-    put_bindings(out, bindings)
-}
-
-/// The bindings behind `with`, as they stand behind a scenario, and nothing where there is none.
 ///
 /// # Errors
 ///
 /// `Memory` where none is left.
-pub fn text_of_bindings(alloc: Global, bindings: &[(Name, bool)]) -> Result<Vec<u8>, Memory>
-    ensures { IfOk result (λ text. text.items ≡ with_text bindings.now) }
+pub fn put_with(out: &mut Vec<u8>, bindings: &[(Name, bool)]) -> Result<(), Memory>
+    ensures { OnOk result (out.new.items ≡ out.old.items ++ with_text bindings.now) }
 {
-    let mut out = Vec::new(alloc);
-    put_with(&mut out, bindings)?;
-    Ok(out)
+    put_if(out, !bindings.is_empty(), b" with ")?;
+    put_bindings(out, bindings)
 }

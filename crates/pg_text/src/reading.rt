@@ -8,14 +8,11 @@ use crate::file::File;
 use crate::lines::next_graph_line;
 use crate::statement::{Numbered, Statement};
 use crate::statements::read_line;
-use cpog_base::{Counted, Memory, Names, OPERATION_LIMIT, SCENARIO_LIMIT};
+use cpog_base::{
+    Counted, GRAPH_LIMIT, LONG_INPUT_LIMIT, Memory, Names, OPERATION_LIMIT, PARAM_LIMIT,
+    SCENARIO_LIMIT,
+};
 use std::alloc::Global;
-
-/// The most parameters of a graph text.
-const PARAM_LIMIT: u32 = 6;
-
-/// The most graphs of a graph text.
-const GRAPH_LIMIT: u32 = 256;
 
 /// Puts the statement of a line last, if the line has one.
 fn keep(
@@ -33,7 +30,7 @@ fn keep(
 
 /// The statements of all lines, and the names of the operations.
 fn read_lines(alloc: Global, bytes: &[u8]) -> Result<(Vec<Numbered>, Names), FileFault>
-    requires { length bytes.now ≤ 536870912 }
+    requires { length bytes.now ≤ LONG_INPUT_LIMIT }
     ensures ok { IfOk result (λ p. IsReadAs bytes.now (record { statements = p.0.items; operations = p.1 })) }
     ensures err { IfErr result (IsFileFault bytes.now) }
 {
@@ -90,7 +87,7 @@ fn is_over(statements: &[Numbered], what: Counted, limit: u32) -> bool
 /// first count that passes its limit and that limit, for the parameters, the graphs, the scenarios and the operations
 /// in this order; `Memory` where none is left.
 pub fn read_file(alloc: Global, bytes: &[u8]) -> Result<File, FileFault>
-    requires { length bytes.now ≤ 536870912 }
+    requires { length bytes.now ≤ LONG_INPUT_LIMIT }
     ensures ok { IfOk result (IsFileOf bytes.now) }
     ensures err { IfErr result (IsFileFault bytes.now) }
 {

@@ -12,12 +12,9 @@ use crate::fault::LineFault;
 use crate::sign::{Fixed, Sign};
 use crate::statement::{Bindings, NameList, Statement};
 use crate::tokens::{after_sign, after_word, bit_at, is_ended, name_at};
-use cpog_base::{Name, Names};
+use cpog_base::{NESTING_LIMIT, Name, Names};
 use pg_algebra::Expr;
 use std::alloc::Global;
-
-/// How deep a token may stand.
-const NESTING_LIMIT: u32 = 100;
 
 /// The names at the front with commas between them, and what follows.
 fn names_at<'a>(alloc: Global, bytes: &'a [u8]) -> Result<(Vec<Name>, &'a [u8]), LineFault>

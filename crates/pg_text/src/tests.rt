@@ -1,4 +1,4 @@
-use crate::{File, FileFault, Statement, read_file, text_of_bindings, write_file};
+use crate::{File, FileFault, Statement, put_with, read_file, write_file};
 use cpog_base::{Counted, Memory};
 use pg_algebra::{Cond, Expr};
 use std::alloc::Global;
@@ -76,7 +76,8 @@ fn each_construct_has_its_tree(rt: HostRuntime) -> Result<(), FileFault> {
             bindings,
         } => {
             assert_eq!(rt; name.as_str(), "A");
-            let written = text_of_bindings(rt.alloc(), bindings.as_slice())?;
+            let mut written = Vec::new(rt.alloc());
+            put_with(&mut written, bindings.as_slice())?;
             assert_eq!(rt; written.as_slice(), b" with y = 1, x = 0".as_slice());
         }
         _ => assert!(rt; false, "a scenario"),

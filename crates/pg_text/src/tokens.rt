@@ -3,7 +3,7 @@
 ghost use Rattle.std.specs.Prelude.{◌≡◌, ◌+◌, ◌<◌, ◌≤◌, ◌++◌, List, ℕ, Bool, MatchOption, IfSome, length, true};
 ghost use Rattle.std.specs.Bool.{MatchBool};
 ghost use Rattle.std.specs.List.{prefix_len, list_all};
-ghost use Rattle.pg_text.specs.Tokens.{name, word as word_token, sign as sign_token, bit_word, sign_text, word_text, is_blank, IsRun, StartsWith, BeginsWith, IsComment, HasNoToken};
+ghost use Rattle.pg_text.specs.Tokens.{name, word as word_token, sign as sign_token, bit_word, sign_text, word_text, is_blank, IsRun, StartsWith, BeginsWith, EndsHere, HasNoToken};
 ghost use Rattle.line_text.specs.Words.{continues_name};
 
 use crate::sign::{Fixed, Sign};
@@ -44,8 +44,9 @@ fn split_word(bytes: &[u8]) -> (&[u8], &[u8])
     bytes.split_at(count_word(bytes))
 }
 
-fn is_comment(bytes: &[u8]) -> bool
-    ensures { MatchBool result (IsComment bytes.now) (IsComment bytes.now → ⊥) }
+/// Whether the line ends here: no byte is left, or a comment begins.
+fn ends_here(bytes: &[u8]) -> bool
+    ensures { MatchBool result (EndsHere bytes.now) (EndsHere bytes.now → ⊥) }
 {
     match bytes.first() {
         Some(b) => *b == b'#',
@@ -58,7 +59,7 @@ pub(crate) fn is_ended(bytes: &[u8]) -> bool
     ensures { MatchBool result (HasNoToken bytes.now) (HasNoToken bytes.now → ⊥) }
 {
     let (_, after) = split_blanks(bytes);
-    is_comment(after)
+    ends_here(after)
 }
 
 /// How the sign is spelled.

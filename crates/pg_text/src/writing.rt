@@ -1,81 +1,86 @@
 //! A file is written as one line for each statement, with single blanks and no parentheses but those that are needed.
 ghost use Rattle.std.specs.Prelude.{◌≡◌, ◌++◌, codes, map, IfOk, OnOk};
-ghost use Rattle.pg_text.specs.declared.place.Place.TheVariants as place;
+ghost use Rattle.pg_text.specs.declared.position.Position.TheVariants as position;
 ghost use Rattle.pg_text.specs.Text.{IsFileOf};
 ghost use Rattle.pg_text.specs.Writing.{cond_text, expr_text, statement_text, file_text, renumbered, row_text};
 
 use crate::file::File;
-use crate::place::Place;
+use crate::position::Position;
 use crate::putting::{name_of, put, put_if, put_with, text_of_bit};
 use crate::statement::Statement;
 use cpog_base::{Memory, Name, Names};
 use pg_algebra::{Cond, Expr};
 use std::alloc::Global;
 
-/// Puts the conditions last, each as its place wants it, with the sign between them.
+/// Puts the conditions last, each as its position wants it, with the sign between them.
 #[cycle(condition)]
 fn put_conditions(
     out: &mut Vec<u8>,
     conditions: &[Cond],
-    place: Place,
+    position: Position,
     sign: &[u8],
 ) -> Result<(), Memory>
-    ensures { OnOk result (out.new.items ≡ out.old.items ++ row_text sign.now (map (cond_text place) conditions.now)) }
+    ensures { OnOk result (out.new.items ≡ out.old.items ++ row_text sign.now (map (cond_text position) conditions.now)) }
 {
     'conditions: for (i, condition) in conditions.iter().enumerate() {
         put_if(out, i > 0, sign)?;
-        put_condition(out, condition, place)?;
+        put_condition(out, condition, position)?;
     }
     Ok(())
 }
 
 /// Puts the condition last.
 #[cycle(condition)]
-fn put_condition(out: &mut Vec<u8>, condition: &Cond, place: Place) -> Result<(), Memory>
-    ensures { OnOk result (out.new.items ≡ out.old.items ++ cond_text place condition.now) }
+fn put_condition(out: &mut Vec<u8>, condition: &Cond, position: Position) -> Result<(), Memory>
+    ensures { OnOk result (out.new.items ≡ out.old.items ++ cond_text position condition.now) }
 {
     match condition {
         Cond::Bit(bit) => put(out, text_of_bit(*bit)),
         Cond::Param(name) => put(out, name.as_str().as_bytes()),
         Cond::Not(negated) => {
             put(out, b"!")?;
-            put_condition(out, negated.get(), Place::Factor)
+            put_condition(out, negated.get(), Position::Factor)
         }
         Cond::And(list) => {
-            put_if(out, place.encloses_product(), b"(")?;
-            put_conditions(out, list.members(), Place::Factor, b" & ")?;
-            put_if(out, place.encloses_product(), b")")
+            put_if(out, position.encloses_product(), b"(")?;
+            put_conditions(out, list.members(), Position::Factor, b" & ")?;
+            put_if(out, position.encloses_product(), b")")
         }
         Cond::Or(list) => {
-            put_if(out, place.encloses_sum(), b"(")?;
-            put_conditions(out, list.members(), Place::Product, b" | ")?;
-            put_if(out, place.encloses_sum(), b")")
+            put_if(out, position.encloses_sum(), b"(")?;
+            put_conditions(out, list.members(), Position::Product, b" | ")?;
+            put_if(out, position.encloses_sum(), b")")
         }
     }
 }
 
-/// Puts the expressions last, each as its place wants it, with the sign between them.
+/// Puts the expressions last, each as its position wants it, with the sign between them.
 #[cycle(expression)]
 fn put_expressions(
     out: &mut Vec<u8>,
     names: &Names,
     exprs: &[Expr],
-    place: Place,
+    position: Position,
     sign: &[u8],
 ) -> Result<(), Memory>
-    ensures { OnOk result (out.new.items ≡ out.old.items ++ row_text sign.now (map (expr_text names.now place) exprs.now)) }
+    ensures { OnOk result (out.new.items ≡ out.old.items ++ row_text sign.now (map (expr_text names.now position) exprs.now)) }
 {
     'expressions: for (i, expr) in exprs.iter().enumerate() {
         put_if(out, i > 0, sign)?;
-        put_expression(out, names, expr, place)?;
+        put_expression(out, names, expr, position)?;
     }
     Ok(())
 }
 
 /// Puts the expression last, its operations by their names.
 #[cycle(expression)]
-fn put_expression(out: &mut Vec<u8>, names: &Names, expr: &Expr, place: Place) -> Result<(), Memory>
-    ensures { OnOk result (out.new.items ≡ out.old.items ++ expr_text names.now place expr.now) }
+fn put_expression(
+    out: &mut Vec<u8>,
+    names: &Names,
+    expr: &Expr,
+    position: Position,
+) -> Result<(), Memory>
+    ensures { OnOk result (out.new.items ≡ out.old.items ++ expr_text names.now position expr.now) }
 {
     match expr {
         Expr::Empty => put(out, b"empty"),
@@ -86,19 +91,19 @@ fn put_expression(out: &mut Vec<u8>, names: &Names, expr: &Expr, place: Place) -
         }
         Expr::When(condition, governed) => {
             put(out, b"[")?;
-            put_condition(out, condition.get(), Place::Sum)?;
+            put_condition(out, condition.get(), Position::Sum)?;
             put(out, b"] ")?;
-            put_expression(out, names, governed.get(), Place::Factor)
+            put_expression(out, names, governed.get(), Position::Factor)
         }
         Expr::Overlay(list) => {
-            put_if(out, place.encloses_sum(), b"(")?;
-            put_expressions(out, names, list.members(), Place::Product, b" + ")?;
-            put_if(out, place.encloses_sum(), b")")
+            put_if(out, position.encloses_sum(), b"(")?;
+            put_expressions(out, names, list.members(), Position::Product, b" + ")?;
+            put_if(out, position.encloses_sum(), b")")
         }
         Expr::Sequence(list) => {
-            put_if(out, place.encloses_product(), b"(")?;
-            put_expressions(out, names, list.members(), Place::Factor, b" -> ")?;
-            put_if(out, place.encloses_product(), b")")
+            put_if(out, position.encloses_product(), b"(")?;
+            put_expressions(out, names, list.members(), Position::Factor, b" -> ")?;
+            put_if(out, position.encloses_product(), b")")
         }
     }
 }
@@ -122,12 +127,12 @@ fn put_definition(
     name: &Name,
     expr: &Expr,
 ) -> Result<(), Memory>
-    ensures { OnOk result (out.new.items ≡ out.old.items ++ (keyword.now ++ (name.now ++ (codes " = " ++ expr_text names.now place.Sum expr.now)))) }
+    ensures { OnOk result (out.new.items ≡ out.old.items ++ (keyword.now ++ (name.now ++ (codes " = " ++ expr_text names.now position.Sum expr.now)))) }
 {
     put(out, keyword)?;
     put(out, name.as_str().as_bytes())?;
     put(out, b" = ")?;
-    put_expression(out, names, expr, Place::Sum)
+    put_expression(out, names, expr, Position::Sum)
 }
 
 /// Puts the statement last.

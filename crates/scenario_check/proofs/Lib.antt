@@ -1,3 +1,4 @@
 pub mod ClosureLemmas
+pub mod CycleLemmas
 pub mod EqualLemmas
 pub mod RowLemmas

@@ -1,9 +1,9 @@
 -- A turn for each number closes the rows over walks.
-use Rattle.std.proofs.Common.{◌≡◌, ℕ, zero, suc, ◌+◌, ◌<◌, ◌==◌, Bool, true, false, ◌&&◌, ◌||◌, if◌then◌else◌, IsTrue, List, [], ◌∷◌, ◌++◌, length, get_or, set as put, replicate, take, drop, refl, sym, ap, ap₂, ◌∙◌, subst, inl, inr, arith}
+use Rattle.std.proofs.Common.{◌≡◌, ℕ, zero, suc, ◌+◌, ◌<◌, ◌==◌, Bool, true, false, ◌&&◌, ◌||◌, if◌then◌else◌, IsTrue, List, ◌++◌, length, get_or, set as put, replicate, take, drop, refl, sym, ap, ◌∙◌, subst, inl, inr, arith}
 use Rattle.std.specs.List.{Contains}
-use Rattle.std.proofs.lemmas.Bool.{cases_eq, cases_lt, both_ways, and_parts, and_from, or_cases, eq-eqb, eqb-true, ne_eqb}
+use Rattle.std.proofs.lemmas.Bool.{cases_eq, cases_lt, both_ways, eq-eqb, ne_eqb}
 use Rattle.std.proofs.lemmas.List.{get_or_past, get_or-replicate, get_or-set_same, get_or-set_other, length-map, length-replicate}
-use Rattle.std.proofs.lemmas.List.Folds.{list_any_at, list_any_more}
+use Rattle.std.proofs.lemmas.List.Folds.{list_any_more}
 use Rattle.std.proofs.Math.ListN.{get_or-map}
 use Rattle.std.proofs.Math.Seq.{take-append_seam}
 use Rattle.std.proofs.lemmas.Bool.Decides.{nat_tests}
@@ -13,11 +13,13 @@ use Rattle.std.specs.Cmp.{nat_cmp_total, unsigned_tied}
 use Rattle.std.specs.FinSet as set
 use Rattle.cpog_defs.specs.declared.types.OpId.{OpId}
 use Rattle.cpog_defs.specs.Walks.{Walk, last, more}
-use Rattle.cpog_defs.specs.Orders.{Set, IsOrder, arc_of}
+use Rattle.cpog_defs.specs.Orders.{Set, IsOrder}
 use Rattle.cpog_defs.specs.Scenarios.{Scenario, IsScenario, HasArc}
 use Rattle.cpog_defs.proofs.WalkLemmas.{joined, replaced}
+use Rattle.cpog_base.specs.Rows.{row_has, has_arc}
+use Rattle.cpog_base.specs.RowLaws.{contains_from_has, has_from_contains}
 use Rattle.scenario_check.proofs.ClosureLemmas.{closed, closed-zero, closed-suc, closed_walk, walk_closed}
-use Rattle.scenario_check.specs.Rows.{row_has, has_arc, joined_row, turned, turns, NoneBelow, AreRowsOf}
+use Rattle.scenario_check.specs.Rows.{joined_row, turned, turns, NoneBelow, AreRowsOf}
 
 -- ---- a turn
 
@@ -91,24 +93,6 @@ has-put rows a b u v l = elim (cases_eq v b) [
 
 -- ---- the arcs that are written
 
-is_arc : (a : OpId × OpId) (u v : ℕ) → IsTrue ((a.0.0 == u) && (a.1.0 == v)) → a ≡ arc_of u v
-is_arc a u v h =
-    let b = and_parts _ _ h in
-    let e : a.0.0 ≡ u = eqb-true _ _ b.0 in
-    let f : a.1.0 ≡ v = eqb-true _ _ b.1 in
-    ap₂ (λ x y. arc_of x y) e f
-
-pub Contains-has_arc : (arcs : List (OpId × OpId)) (u v : ℕ) → IsTrue (has_arc arcs u v) → Contains arcs (arc_of u v)
-Contains-has_arc [] u v h = absurd (both_ways false refl h)
-Contains-has_arc (a ∷ arcs) u v h = elim (or_cases _ _ h) [
-  | inl here ↦ (0, omega arith, is_arc a u v here)
-  | inr there ↦ let r = Contains-has_arc arcs u v there in (suc r.0, omega (arith, r.1), r.2)
-]
-
-pub has_arc-Contains : (arcs : List (OpId × OpId)) (u v : ℕ) → Contains arcs (arc_of u v) → IsTrue (has_arc arcs u v)
-has_arc-Contains arcs u v h =
-    list_any_at (λ a. (a.0.0 == u) && (a.1.0 == v)) arcs h.0 (arc_of u v) h.1 (rw h.2 (and_from _ _ (eq-eqb u u refl) (eq-eqb v v refl)))
-
 regroup : (x y z : Bool) → ((x || y) || z) ≡ (x || (y || z))
 regroup true y z = refl
 regroup false y z = refl
@@ -133,8 +117,8 @@ pub filled : (n : ℕ) (arcs : List (OpId × OpId)) (rows : List Set) → ((u v 
 filled n arcs rows h =
     let same : (u v : ℕ) → row_has rows u v ≡ has_arc arcs u v = λ u v. h u v ∙ ap (λ x. x || has_arc arcs u v) (has-empty n u v) in
     record {
-      there = λ u v t. replaced (λ a b x. last (Contains-has_arc arcs a b (sym (same a b) ∙ x))) (turns_walk rows u v t);
-      back = λ u v w. walk_turns rows u v (replaced (λ a b x. last (same a b ∙ has_arc-Contains arcs a b x)) w);
+      there = λ u v t. replaced (λ a b x. last (contains_from_has arcs a b (sym (same a b) ∙ x))) (turns_walk rows u v t);
+      back = λ u v w. walk_turns rows u v (replaced (λ a b x. last (same a b ∙ has_from_contains arcs a b x)) w);
     }
 
 first_of : {E : ℕ → ℕ → Type 0} (P : ℕ → Type 0) → ((a b : ℕ) → E a b → P a) → {u v : ℕ} → Walk E u v → P u

@@ -22,7 +22,11 @@ pub record IsFirstPair (orders : List Order) (later earlier : ℕ) : Type 0 wher
   pub least : (i j : ℕ) → i < later → AreEqualAt orders i j → ⊥
   pub first : (j : ℕ) → j < earlier → AreEqualAt orders later j → ⊥
 
+-- no two scenarios are equal
+abbrev pub AreDifferent : List Order → Type 0
+AreDifferent orders = (later earlier : ℕ) → AreEqualAt orders later earlier → ⊥
+
 -- the first equal pair, or none where no two are equal
 abbrev pub AreFirstEqual : List Order → Option (ScenId × ScenId) → Type 0
 AreFirstEqual orders (Some p) = IsFirstPair orders p.0.0 p.1.0
-AreFirstEqual orders None = (i j : ℕ) → AreEqualAt orders i j → ⊥
+AreFirstEqual orders None = AreDifferent orders

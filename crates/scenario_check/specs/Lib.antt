@@ -1,3 +1,5 @@
 pub mod Rows
+pub mod Cycles
 pub mod Faults
 pub mod Equals
+pub mod Laws

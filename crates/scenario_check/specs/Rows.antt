@@ -1,18 +1,11 @@
 -- For each operation the set of those before it, and how the sets are closed.
-use Rattle.std.specs.Prelude.{◌==◌, ℕ, zero, suc, ◌<◌, Bool, ◌&&◌, if◌then◌else◌, IsTrue, List, map, slice_index_or}
-use Rattle.std.specs.List.{list_any, Contains}
+use Rattle.std.specs.Prelude.{ℕ, zero, suc, ◌<◌, if◌then◌else◌, IsTrue, List, map, slice_index_or}
+use Rattle.std.specs.List.{Contains}
 use Rattle.std.specs.FinSet as set
 use Rattle.cpog_defs.specs.declared.types.OpId.{OpId}
 use Rattle.cpog_defs.specs.Orders.{Set, arc_of}
 use Rattle.cpog_defs.specs.Walks.{Walk}
-
--- whether v's set has u
-abbrev pub row_has : List Set → ℕ → ℕ → Bool
-row_has rows u v = set.contains (slice_index_or rows v set.empty) u
-
--- whether an arc from u to v is among these
-abbrev pub has_arc : List (OpId × OpId) → ℕ → ℕ → Bool
-has_arc arcs u v = list_any (λ a. (a.0.0 == u) && (a.1.0 == v)) arcs
+use Rattle.cpog_base.specs.Rows.{row_has}
 
 -- what is before k joins a row that has k
 abbrev pub joined_row : ℕ → Set → Set → Set

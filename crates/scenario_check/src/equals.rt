@@ -5,7 +5,7 @@ ghost use Rattle.std.specs.FinSet as set;
 ghost use Rattle.cpog_defs.specs.Orders.{AreEqual};
 ghost use Rattle.scenario_check.specs.Equals.{EqualsAt, NoneEqualBelow, AreFirstEqual};
 
-use cpog_base::{OpId, OpSet, Order, ScenId};
+use cpog_base::{OpId, OpSet, Order, SCENARIO_LIMIT, ScenId};
 
 /// Whether two sets have the same members.
 fn same_members(a: &OpSet, b: &OpSet) -> bool
@@ -16,7 +16,7 @@ fn same_members(a: &OpSet, b: &OpSet) -> bool
 
 /// Whether two orders have the same operations and the same before relation. How many operations there may be isn't
 /// compared: an operation that neither scenario has makes no difference.
-pub fn are_equal(a: &Order, b: &Order) -> bool
+fn are_equal(a: &Order, b: &Order) -> bool
     ensures { IsTrue result ↔ AreEqual a.now b.now }
 {
     if !same_members(&a.ops(), &b.ops()) {
@@ -33,7 +33,7 @@ pub fn are_equal(a: &Order, b: &Order) -> bool
 
 /// The first of these orders that is equal to one.
 fn first_equal_to(orders: &[Order], order: &Order) -> Option<ScenId>
-    requires { length orders.now ≤ 64 }
+    requires { length orders.now ≤ SCENARIO_LIMIT }
     ensures { MatchOption result (NoneEqualBelow orders.now order.now (length orders.now)) (λ s. EqualsAt orders.now order.now s.0 × NoneEqualBelow orders.now order.now s.0) }
 {
     for s in 0..orders.len() as u8 {
@@ -46,7 +46,7 @@ fn first_equal_to(orders: &[Order], order: &Order) -> Option<ScenId>
 
 /// The least scenario that is equal to an earlier one, and the first that it is equal to, in this order.
 pub fn first_equal(orders: &[Order]) -> Option<(ScenId, ScenId)>
-    requires { length orders.now ≤ 64 }
+    requires { length orders.now ≤ SCENARIO_LIMIT }
     ensures { AreFirstEqual orders.now result }
 {
     for later in 0..orders.len() {

@@ -1,12 +1,13 @@
 //! What a column asks for, with a bit for each scenario.
 
-ghost use Rattle.std.specs.Prelude.{◌≡◌, ◌≢◌, ◌↔◌, ◌<◌, ℕ, IsTrue, true, false, IfOk};
+ghost use Rattle.std.specs.Prelude.{◌≡◌, ◌≢◌, ◌↔◌, ◌<◌, ℕ, IsTrue, true, false, length, IfOk};
 ghost use Rattle.cpog_defs.specs.declared.types.Bit3.TheVariants.{Free};
 ghost use Rattle.cpog_defs.specs.Codes.{bit};
 ghost use Rattle.cpog_defs.specs.Entries.{entry_at};
-ghost use Rattle.gate_core.specs.First.{scenarios_where, smaller_scenarios, has_fewer_zeros};
+ghost use Rattle.gate_core.specs.First.{codes_where, smaller_codes, has_fewer_zeros};
 ghost use Rattle.gate_core.specs.Words.{asks_for, IsAskedBy, IsMetBy};
 
+use cpog_base::bits::{is_within, share_bit, with_bit};
 use cpog_base::{Bit3, Column, Memory, ScenId};
 use std::alloc::Global;
 
@@ -34,24 +35,28 @@ fn word_asking(column: &Column, asked: Bit3) -> u64
 {
     let mut word = 0;
     for s in 0..column.len() {
-        if column.get(ScenId(s)) == asked {
-            word |= 1 << s;
-        }
+        word = with_bit(word, s, column.get(ScenId(s)) == asked);
     }
     word
 }
 
-/// The scenarios that are asked for a 1, or those that are asked for a 0 where these are fewer; and whether they are.
+/// The codes of the scenarios that are asked for a 1, or of those that are asked for a 0 where these are fewer; and
+/// whether they are.
 ///
 /// # Errors
 ///
 /// `Memory` where none is left.
-pub(crate) fn smaller_set(alloc: Global, column: &Column) -> Result<(Vec<u8>, bool), Memory>
-    ensures scenarios { IfOk result (λ set. set.0.items ≡ smaller_scenarios column.now) }
+pub(crate) fn smaller_set(
+    alloc: Global,
+    codes: &[u8],
+    column: &Column,
+) -> Result<(Vec<u8>, bool), Memory>
+    requires { length column.now ≡ length codes.now }
+    ensures codes { IfOk result (λ set. set.0.items ≡ smaller_codes codes.now column.now) }
     ensures zeros { IfOk result (λ set. set.1 ≡ has_fewer_zeros column.now) }
 {
-    let ones = scenarios_asking(alloc, column, Bit3::One)?;
-    let zeros = scenarios_asking(alloc, column, Bit3::Zero)?;
+    let ones = codes_asking(alloc, codes, column, Bit3::One)?;
+    let zeros = codes_asking(alloc, codes, column, Bit3::Zero)?;
     if zeros.len() < ones.len() {
         Ok((zeros, true))
     } else {
@@ -59,25 +64,24 @@ pub(crate) fn smaller_set(alloc: Global, column: &Column) -> Result<(Vec<u8>, bo
     }
 }
 
-/// The scenarios that are asked for this bit, in order.
-fn scenarios_asking(alloc: Global, column: &Column, asked: Bit3) -> Result<Vec<u8>, Memory>
-    requires { asked ≢ Free }
-    ensures { IfOk result (λ scenarios. scenarios.items ≡ scenarios_where (asks_for asked) column.now) }
+/// The codes of the scenarios that are asked for this bit, in order.
+fn codes_asking(
+    alloc: Global,
+    codes: &[u8],
+    column: &Column,
+    asked: Bit3,
+) -> Result<Vec<u8>, Memory>
+    requires asked { asked ≢ Free }
+    requires one_each { length column.now ≡ length codes.now }
+    ensures { IfOk result (λ asking. asking.items ≡ codes_where (asks_for asked) codes.now column.now) }
 {
-    let mut scenarios = Vec::new(alloc);
+    let mut asking = Vec::new(alloc);
     for s in 0..column.len() {
         if column.get(ScenId(s)) == asked {
-            scenarios.push(s)?;
+            asking.push(codes[usize::from(s)])?;
         }
     }
-    Ok(scenarios)
-}
-
-/// Whether each bit of one word is a bit of the other.
-fn is_within(word: u64, other: u64) -> bool
-    ensures { IsTrue result ↔ ((i : ℕ) → i < 64 → IsTrue (bit word i) → IsTrue (bit other i)) }
-{
-    word & !other == 0
+    Ok(asking)
 }
 
 impl Asked {
@@ -85,13 +89,13 @@ impl Asked {
     pub(crate) fn is_met_by(self, word: u64) -> bool
         ensures { IsTrue result ↔ IsMetBy self.ones self.zeros false word }
     {
-        is_within(self.ones, word) && is_within(self.zeros, !word)
+        is_within(self.ones, word) && !share_bit(self.zeros, word)
     }
 
     /// Whether the complements of the values in a word are as asked.
     pub(crate) fn is_opposed_by(self, word: u64) -> bool
         ensures { IsTrue result ↔ IsMetBy self.ones self.zeros true word }
     {
-        is_within(self.ones, !word) && is_within(self.zeros, word)
+        !share_bit(self.ones, word) && is_within(self.zeros, word)
     }
 }

@@ -6,6 +6,7 @@ ghost use Rattle.cpog_defs.specs.Codes.{bit};
 ghost use Rattle.gate_core.specs.Words.{IsMetBy, IsFirstMet, IsTableOf, IsFirstWith, NoneWith, IsFirstApart};
 
 use crate::first::asked::Asked;
+use cpog_base::BIT_LIMIT;
 use cpog_defs::types::{Gate, Ref};
 
 /// The first signal that agrees with what is asked, complemented only where it does not agree as it stands.
@@ -32,7 +33,7 @@ fn signal(number: u32, negated: bool) -> Ref
 
 /// The gate of the first two inputs that tell the scenarios apart, which is 1 exactly where a scenario is asked for a 1.
 pub(crate) fn first_pair(inputs: &[u64], asked: Asked) -> Option<Gate>
-    requires { length inputs.now ≤ 8 }
+    requires { length inputs.now ≤ BIT_LIMIT }
     ensures { MatchOption result ((j : ℕ) → NoneWith asked.ones asked.zeros inputs.now j) (IsFirstApart asked.ones asked.zeros inputs.now) }
 {
     for j in 0..inputs.len() {
@@ -46,7 +47,7 @@ pub(crate) fn first_pair(inputs: &[u64], asked: Asked) -> Option<Gate>
 /// The gate of this input and the first later one with which it tells the scenarios apart.
 fn first_pair_with(inputs: &[u64], j: usize, asked: Asked) -> Option<Gate>
     requires in_range { j < length inputs.now }
-    requires few { length inputs.now ≤ 8 }
+    requires few { length inputs.now ≤ BIT_LIMIT }
     ensures { MatchOption result (NoneWith asked.ones asked.zeros inputs.now j) (IsFirstWith asked.ones asked.zeros inputs.now j) }
 {
     for k in j + 1..inputs.len() {

@@ -1,80 +1,90 @@
 //! The signals of a list of gates while it grows. The values of a signal on the codes of all scenarios are the bits of
-//! one word, so a question about a signal is a few steps; and a gate that is there already is looked up.
+//! one word, that of scenario `s` bit `s`, so a question about a signal is a few steps; and a gate that is there already is looked up.
 
-ghost use Rattle.std.specs.Prelude.{◌≡◌, ℕ, ◌+◌, ◌-◌, ◌<◌, ◌≤◌, ◌^◌, ◌&&◌, [], map, IfOk, OnErr};
+ghost use Rattle.std.specs.Prelude.{◌≡◌, ℕ, ◌+◌, ◌-◌, ◌<◌, ◌≤◌, ◌^◌, ◌&&◌, [], length, map, IfOk, OnErr};
 ghost use Rattle.cpog_defs.specs.Codes.{bit};
 ghost use Rattle.cpog_defs.specs.Gates.{signal_count, gate_value, IsGateList};
-ghost use Rattle.gate_core.specs.First.{with_gate};
+ghost use Rattle.gate_core.specs.First.{code_at, with_gate};
 ghost use Rattle.gate_core.specs.Words as words_of;
 ghost use Rattle.gate_core.specs.Words.{AreSignals, AreInputWords};
 
 use crate::GateList;
-use cpog_base::Memory;
+use cpog_base::bits::{has_bit, with_bit};
+use cpog_base::{BIT_LIMIT, Memory, SCENARIO_LIMIT};
 use cpog_defs::types::Gate;
 use indexmap::IndexSet;
 use std::alloc::Global;
 use std::marker::Model;
 
-/// Gates over 1 to 8 inputs, any two of them different, and the values of their signals on the first 64 words.
+/// Gates over 1 to 8 inputs, any two of them different, and the values of their signals on at most 64 codes.
 #[derive(Drop)]
 pub(crate) struct Signals {
+    codes: Vec<u8>,
     inputs: u8,
     // What each gate reads, the lower signal first, and its table.
     gates: IndexSet<(u32, u32, u8)>,
-    // For each signal the word whose bit s is its value on the word s.
+    // For each signal the word whose bit s is its value on the code at place s.
     words: Vec<u64>,
 }
 
 impl Model for Signals {
-    ghost use Rattle.cpog_defs.specs.Gates as lists;
     ghost use Rattle.gate_core.specs.Words as words_of;
 
-    ghost Value = { lists.GateList };
+    ghost Value = { words_of.Signals };
 
-    ghost view = { λ a. words_of.gates_of a.inputs a.gates.keys };
+    ghost view = { λ a. record { codes = a.codes.items; list = words_of.gates_of a.inputs a.gates.keys } };
 
-    ghost invariant = { λ a. words_of.AreSignals (words_of.gates_of a.inputs a.gates.keys) a.words.items };
+    ghost invariant = { λ a. words_of.AreSignals a.codes.items (words_of.gates_of a.inputs a.gates.keys) a.words.items };
 }
 
 impl Signals {
     /// So many inputs, and no gate.
-    pub(crate) fn new(alloc: Global, inputs: u8) -> Result<Signals, Memory>
+    pub(crate) fn new(alloc: Global, codes: &[u8], inputs: u8) -> Result<Signals, Memory>
         requires some { 1 ≤ inputs }
-        requires few { inputs ≤ 8 }
-        ensures { IfOk result (λ signals. signals ≡ record { inputs = inputs; gates = [] }) }
+        requires few { inputs ≤ BIT_LIMIT }
+        requires few_codes { length codes.now ≤ SCENARIO_LIMIT }
+        ensures { IfOk result (λ signals. signals ≡ record { codes = codes.now; list = record { inputs = inputs; gates = [] } }) }
     {
         let mut words = Vec::with_capacity(alloc, usize::from(inputs))?;
         for i in 0..inputs {
-            words.push(input_word(i))?;
+            words.push(input_word(codes, i))?;
         }
         Ok(Signals {
+            codes: Vec::from_slice(alloc, codes)?,
             inputs,
             gates: IndexSet::new(alloc),
             words,
         })
     }
 
+    /// The codes on which the signals have their values.
+    pub(crate) fn codes(&self) -> &[u8]
+        ensures { result.now ≡ self.now.codes }
+    {
+        self.codes.as_slice()
+    }
+
     /// How many inputs there are.
     pub(crate) fn inputs(&self) -> u8
-        ensures inputs { result ≡ self.now.inputs }
-        ensures some { 1 ≤ self.now.inputs }
-        ensures few { self.now.inputs ≤ 8 }
-        ensures gates { IsGateList self.now }
+        ensures inputs { result ≡ self.now.list.inputs }
+        ensures some { 1 ≤ self.now.list.inputs }
+        ensures few { self.now.list.inputs ≤ BIT_LIMIT }
+        ensures gates { IsGateList self.now.list }
     {
         self.inputs
     }
 
     /// For each signal a word of its values.
     pub(crate) fn words(&self) -> &[u64]
-        ensures { AreSignals self.now result.now }
+        ensures { AreSignals self.now.codes self.now.list result.now }
     {
         self.words.as_slice()
     }
 
     /// For each input a word of its values.
     pub(crate) fn input_words(&self) -> &[u64]
-        ensures words { AreInputWords self.now.inputs result.now }
-        ensures few { self.now.inputs ≤ 8 }
+        ensures words { AreInputWords self.now.list.inputs self.now.codes result.now }
+        ensures few { self.now.list.inputs ≤ BIT_LIMIT }
     {
         &self.words[..usize::from(self.inputs)]
     }
@@ -86,10 +96,11 @@ impl Signals {
     /// `Memory` where none is left. The list is as before then.
     pub(crate) fn with_gate(&mut self, gate: Gate) -> Result<u32, Memory>
         requires lower { gate.j < gate.k }
-        requires earlier { gate.k < signal_count self.old }
+        requires earlier { gate.k < signal_count self.old.list }
         requires table { gate.table < 16 }
-        requires room { signal_count self.old < 2 ^ 32 - 1 }
-        ensures gate { IfOk result (λ number. with_gate self.old gate ≡ record { gates = self.new; signal = number }) }
+        requires room { signal_count self.old.list < 2 ^ 32 - 1 }
+        ensures gate { IfOk result (λ number. with_gate self.old.list gate ≡ record { gates = self.new.list; signal = number }) }
+        ensures codes { self.new.codes ≡ self.old.codes }
         ensures err { OnErr result (self.new ≡ self.old) }
     {
         let word = gate_word(
@@ -112,8 +123,8 @@ impl Signals {
     ///
     /// `Memory` where none is left.
     pub(crate) fn gate_list(&self, alloc: Global) -> Result<GateList, Memory>
-        requires { signal_count self.now < 2 ^ 32 }
-        ensures { IfOk result (λ list. list ≡ self.now) }
+        requires { signal_count self.now.list < 2 ^ 32 }
+        ensures { IfOk result (λ list. list ≡ self.now.list) }
     {
         let gates = gates_in(alloc, &self.gates)?;
         Ok(GateList::from_vec(self.inputs, gates))
@@ -135,16 +146,15 @@ fn gates_in(alloc: Global, keys: &IndexSet<(u32, u32, u8)>) -> Result<Vec<Gate>,
     )
 }
 
-/// The values of an input on the first 64 words.
-fn input_word(i: u8) -> u64
-    requires { i < 8 }
-    ensures { (s : ℕ) → s < 64 → bit result s ≡ bit s i }
+/// The values of an input on the codes.
+fn input_word(codes: &[u8], i: u8) -> u64
+    requires few { length codes.now ≤ SCENARIO_LIMIT }
+    requires input { i < BIT_LIMIT }
+    ensures { (s : ℕ) → s < length codes.now → bit result s ≡ bit (code_at codes.now s) i }
 {
     let mut word = 0;
-    for s in 0..64u8 {
-        if s >> i & 1 == 1 {
-            word |= 1 << s;
-        }
+    for (s, code) in codes.iter().enumerate() {
+        word = with_bit(word, s as u8, has_bit(u64::from(*code), i));
     }
     word
 }
@@ -164,5 +174,9 @@ fn row_of(table: u8, row: u8, word: u64) -> u64
     requires { row < 4 }
     ensures { (s : ℕ) → bit result s ≡ (bit table row && bit word s) }
 {
-    if table >> row & 1 == 1 { word } else { 0 }
+    if has_bit(u64::from(table), row) {
+        word
+    } else {
+        0
+    }
 }

@@ -2,7 +2,7 @@ use Rattle.std.proofs.Common.{◌≡◌, ◌≤◌, ◌∙◌, sym, ap, ap₂, s
 use Rattle.std.specs.List.{All}
 use Rattle.std.proofs.lemmas.Result.{IfOk-weaker}
 use Rattle.cpog_defs.specs.Graphs.{IsPlace}
-use Rattle.cpog_merge.specs.Table.{column_at}
+use Rattle.cpog_merge.specs.Columns.{column_at}
 use Rattle.cpog_merge.specs.Classes.{AreClassPlaces}
 use Rattle.cpog_merge.specs.Opens.{open_places, chosen}
 use Rattle.cpog_merge.proofs.ClassLemmas.{open_columns, class_list, opens_are_places, are_class_places, few_classes}
@@ -11,12 +11,12 @@ use Rattle.cpog_merge.proofs.choosing.class_places.Goals as goal
 pub columns_of-requires : goal.columns_of-requires
 columns_of-requires c =
     let t = c.args.columns.now in
-    subst (All (IsPlace t.count)) (sym (c.deref.ensures.value ∙ c.in_ok-open.ensures)) (opens_are_places t c.count-count.ensures.table)
+    subst (All (IsPlace t.count)) (sym (c.deref.ensures.value ∙ c.in_ok-open.ensures)) (opens_are_places t c.count-count.ensures.columns)
 
 pub returns-clause-places : goal.returns-clause-places
 returns-clause-places c =
     let t = c.args.columns.now in
-    let is = c.count-count.ensures.table in
+    let is = c.count-count.ensures.columns in
     let columns : c.deref-3.result.now ≡ open_columns t is =
     c.deref-3.ensures.value ∙ c.in_ok-open_columns.ensures ∙ ap (map (column_at t)) (c.deref.ensures.value ∙ c.in_ok-open.ensures) in
     let open_there : c.deref-2.result.now ≡ open_places t = c.deref-2.ensures.value ∙ c.in_ok-open.ensures in
@@ -27,7 +27,7 @@ returns-clause-places c =
 pub returns-clause-few : goal.returns-clause-few
 returns-clause-few c =
     let t = c.args.columns.now in
-    let is = c.count-count.ensures.table in
+    let is = c.count-count.ensures.columns in
     let columns : c.deref-3.result.now ≡ open_columns t is =
     c.deref-3.ensures.value ∙ c.in_ok-open_columns.ensures ∙ ap (map (column_at t)) (c.deref.ensures.value ∙ c.in_ok-open.ensures) in
     let open_there : c.deref-2.result.now ≡ open_places t = c.deref-2.ensures.value ∙ c.in_ok-open.ensures in

@@ -3,7 +3,7 @@ use Rattle.std.proofs.lemmas.Bool.{ne_eqb, eq-eqb}
 use Rattle.cpog_defs.specs.declared.types.Place.TheVariants.{Arc}
 use Rattle.cpog_merge.specs.declared.class_list.Belongs.{Belongs}
 use Rattle.cpog_merge.specs.declared.class_list.Belongs.TheVariants.{Const}
-use Rattle.cpog_merge.specs.Table.{column_at}
+use Rattle.cpog_merge.specs.Columns.{column_at}
 use Rattle.cpog_merge.specs.Opens.{HasClass, belonging}
 use Rattle.cpog_merge.proofs.ListLemmas.{each_more}
 use Rattle.cpog_merge.proofs.choosing.push_belongs_from.Goals.{then-u-v+in_ok-push, else-u-v+in_ok-push-2}

@@ -1,36 +1,38 @@
 use Rattle.std.proofs.Common.{[], refl, sym, ap, subst, ◌∙◌, arith}
-use Rattle.cpog_defs.specs.Codes.{AreCodes}
-use Rattle.cpog_defs.specs.Gates.{IsGateList}
-use Rattle.gate_core.specs.First.{TakesAll, ServesColumns}
-use Rattle.gate_core.proofs.TakeLemmas.{encodable, whole_taken, whole_serves, numbers_are_codes}
+use Rattle.cpog_defs.specs.Gates.{IsGateList, GateList}
+use Rattle.gate_core.specs.Serving.{ReferencesServe}
+use Rattle.gate_core.proofs.TakeLemmas.{encodable, from_start, whole_taken, whole_serves}
 use Rattle.gate_core.proofs.BoundLemmas.{whole_bounded, few_in_all}
 use Rattle.gate_core.proofs.first.first_encode.Goals as goal
 
 pub gate_list-requires : goal.gate_list-requires
 gate_list-requires c =
-    let h = whole_taken c.args.n c.args.bits c.requires.some_bit c.requires.few c.requires.enough c.args.classes.now c.requires.classes c.in_ok-signals.signals c.in_ok-signals.ensures c.take_all.new.signals c.in_ok-refs.refs.items c.in_ok-refs.ensures in
     let columns = c.args.classes.now in
-    let encodables = encodable c.args.n c.args.bits c.requires.few c.requires.enough columns c.requires.classes in
-    let few = few_in_all (record { inputs = c.args.bits; gates = [] }) refl c.requires.some_bit c.requires.few_bits columns encodables c.requires.few_classes c.take_all.new.signals c.in_ok-refs.refs.items
-    (subst (λ g. TakesAll g columns c.take_all.new.signals c.in_ok-refs.refs.items) c.in_ok-signals.ensures c.in_ok-refs.ensures) in
-    omega (arith, few, h.extends.inputs, c.requires.few_bits)
-
-pub returns-clause-codes : goal.returns-clause-codes
-returns-clause-codes c = (c.in_ok-codes_below.ensures, subst (AreCodes c.args.bits c.args.n) (sym c.in_ok-codes_below.ensures) (numbers_are_codes c.args.bits c.args.n c.requires.enough))
+    let start : GateList = record { inputs = c.args.bits; gates = [] } in
+    let t = from_start c.args.codes.now c.args.bits columns c.in_ok-signals.signals c.in_ok-signals.ensures c.take_all.new.signals.list c.in_ok-refs.refs.items c.in_ok-refs.ensures in
+    let all = whole_taken c.args.codes.now c.args.bits c.requires.some_bit c.requires.few c.requires.codes columns c.requires.classes c.take_all.new.signals.list c.in_ok-refs.refs.items t in
+    let few = few_in_all c.args.codes.now start c.requires.few refl c.requires.some_bit c.requires.few_bits columns
+    (encodable c.args.codes.now c.args.bits c.requires.few c.requires.codes columns c.requires.classes) c.requires.few_classes c.take_all.new.signals.list c.in_ok-refs.refs.items t in
+    omega (arith, few, all.extends.inputs, c.requires.few_bits)
 
 pub returns-clause-gates : goal.returns-clause-gates
 returns-clause-gates c =
-    let h = whole_taken c.args.n c.args.bits c.requires.some_bit c.requires.few c.requires.enough c.args.classes.now c.requires.classes c.in_ok-signals.signals c.in_ok-signals.ensures c.take_all.new.signals c.in_ok-refs.refs.items c.in_ok-refs.ensures in
+    let columns = c.args.classes.now in
+    let t = from_start c.args.codes.now c.args.bits columns c.in_ok-signals.signals c.in_ok-signals.ensures c.take_all.new.signals.list c.in_ok-refs.refs.items c.in_ok-refs.ensures in
+    let all = whole_taken c.args.codes.now c.args.bits c.requires.some_bit c.requires.few c.requires.codes columns c.requires.classes c.take_all.new.signals.list c.in_ok-refs.refs.items t in
     let e = c.in_ok-gate_list.ensures in
-    (subst IsGateList (sym e) h.gates, ap (λ g. g.inputs) e ∙ h.extends.inputs)
+    (subst IsGateList (sym e) all.gates, ap (λ (g : GateList). g.inputs) e ∙ all.extends.inputs)
 
 pub returns-clause-refs : goal.returns-clause-refs
 returns-clause-refs c =
-    let h = whole_taken c.args.n c.args.bits c.requires.some_bit c.requires.few c.requires.enough c.args.classes.now c.requires.classes c.in_ok-signals.signals c.in_ok-signals.ensures c.take_all.new.signals c.in_ok-refs.refs.items c.in_ok-refs.ensures in
-    subst (λ g. ServesColumns c.args.classes.now (record { codes = c.in_ok-codes_below.field-0.items; gates = g; refs = c.in_ok-refs.refs.items })) (sym c.in_ok-gate_list.ensures)
-    (whole_serves c.args.n c.args.bits c.args.classes.now c.requires.classes c.take_all.new.signals c.in_ok-refs.refs.items h c.in_ok-codes_below.field-0.items c.in_ok-codes_below.ensures)
+    let columns = c.args.classes.now in
+    let t = from_start c.args.codes.now c.args.bits columns c.in_ok-signals.signals c.in_ok-signals.ensures c.take_all.new.signals.list c.in_ok-refs.refs.items c.in_ok-refs.ensures in
+    let all = whole_taken c.args.codes.now c.args.bits c.requires.some_bit c.requires.few c.requires.codes columns c.requires.classes c.take_all.new.signals.list c.in_ok-refs.refs.items t in
+    subst (λ codes. ReferencesServe columns codes c.in_ok-gate_list.field-0 c.in_ok-refs.refs.items) (sym c.in_ok-from_slice.ensures.items)
+    (subst (λ g. ReferencesServe columns c.args.codes.now g c.in_ok-refs.refs.items) (sym c.in_ok-gate_list.ensures)
+    (whole_serves c.args.codes.now (record { inputs = c.args.bits; gates = [] }) columns c.take_all.new.signals.list c.in_ok-refs.refs.items all))
 
 pub returns-clause-few_gates : goal.returns-clause-few_gates
 returns-clause-few_gates c =
-    λ first. whole_bounded (record { inputs = c.args.bits; gates = [] }) refl c.requires.some_bit c.requires.few_bits c.args.classes.now
-    (encodable c.args.n c.args.bits c.requires.few c.requires.enough c.args.classes.now c.requires.classes) _ _ first.refs
+    λ first. whole_bounded c.args.codes.now (record { inputs = c.args.bits; gates = [] }) c.requires.few refl c.requires.some_bit c.requires.few_bits c.args.classes.now
+    (encodable c.args.codes.now c.args.bits c.requires.few c.requires.codes c.args.classes.now c.requires.classes) _ _ first.refs

@@ -4,4 +4,4 @@ use Rattle.pg_normal.specs.Changes.{KeepsGraph}
 use Rattle.pg_normal.proofs.instances.first_unbound.Given as goal
 
 abbrev pub invariant-parameters : goal.invariant-parameters
-invariant-parameters l = (j : ℕ) → j < l.k → bit l.bound.fixed j ≡ false → KeepsGraph l.form j l.among.0
+invariant-parameters l = (j : ℕ) → j < l.k → bit l.binding.fixed j ≡ false → KeepsGraph l.form j l.among.0

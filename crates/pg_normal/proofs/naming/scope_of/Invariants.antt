@@ -4,6 +4,6 @@ use Rattle.pg_normal.proofs.naming.scope_of.Given as goal
 
 abbrev pub invariant-statements : goal.invariant-statements
 invariant-statements l = record {
-  faults : name_faults l.file ≡ faults_from l.scope (drop l.i l.file.statements);
-  whole : scope_from nothing l.file.statements ≡ scope_from l.scope (drop l.i l.file.statements);
+  faults : name_faults l.file ≡ faults_from l.scope (drop l.numbered-index l.file.statements);
+  whole : scope_from nothing l.file.statements ≡ scope_from l.scope (drop l.numbered-index l.file.statements);
 }

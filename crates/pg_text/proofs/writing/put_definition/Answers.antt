@@ -1,12 +1,12 @@
 use Rattle.std.specs.Prelude.{codes, ◌++◌}
 use Rattle.std.proofs.Common.{ap, ◌∙◌}
-use Rattle.pg_text.specs.declared.place.Place.TheVariants as place
+use Rattle.pg_text.specs.declared.position.Position.TheVariants as position
 use Rattle.pg_text.specs.Writing.{expr_text}
 use Rattle.pg_text.proofs.RowTexts.{four_parts, on_ok}
 use Rattle.pg_text.proofs.writing.put_definition.Goals as goal
 
 pub returns : goal.returns
 returns c = on_ok c.put_expression.result c.put_expression.new.out.items _ _
-    (four_parts c.args.out.now.items c.args.keyword.now c.args.name.now (codes " = ") (expr_text c.args.names.now place.Sum c.args.expr.now) c.put.new.out.items c.put-2.new.out.items c.put-3.new.out.items
+    (four_parts c.args.out.now.items c.args.keyword.now c.args.name.now (codes " = ") (expr_text c.args.names.now position.Sum c.args.expr.now) c.put.new.out.items c.put-2.new.out.items c.put-3.new.out.items
     c.in_ok-put.ensures.put (c.in_ok-put-2.ensures.put ∙ ap (λ t. c.put.new.out.items ++ t) (c.as_bytes.ensures.value ∙ c.as_str.ensures)) c.in_ok-put-3.ensures.put)
     c.put_expression.ensures

@@ -1,15 +1,13 @@
-use Rattle.std.proofs.Common.{◌∙◌, sym, ap, ◌==◌}
-use Rattle.std.proofs.lemmas.Bool.{ne_eqb}
-use Rattle.cpog_base.proofs.ColumnLemmas.{bit_read}
-use Rattle.gate_core.proofs.SignalLemmas.{no_input, input_with, input_without}
+use Rattle.std.proofs.Common.{ap, ◌∙◌}
+use Rattle.gate_core.specs.First.{code_at}
+use Rattle.cpog_defs.specs.Codes.{bit}
+use Rattle.gate_core.proofs.WordLemmas.{no_word, one_bit_more}
 use Rattle.gate_core.proofs.first.signals.input_word.Goals as goal
-use Rattle.gate_core.proofs.first.signals.input_word.Goals.{then-s-i-eq1, else-s-i-eq1}
 
 pub loop-s-init : goal.loop-s-init
-loop-s-init c = no_input c.args.i
+loop-s-init c = no_word _
 
 pub loop-s-preserved : goal.loop-s-preserved
-loop-s-preserved c = elim c.if-s-i-eq1.branch [
-  | then-s-i-eq1 w ↦ rw w.word-is (input_with c.args.i c.loop-s.s c.loop-s.word c.loop-s-test.true c.loop-s.invariant (sym (bit_read c.loop-s.s c.args.i) ∙ ap (λ b. b == 1) w.if-s-i-eq1.true))
-  | else-s-i-eq1 w ↦ rw w.word-is (input_without c.args.i c.loop-s.s c.loop-s.word c.loop-s-test.true c.loop-s.invariant (sym (bit_read c.loop-s.s c.args.i) ∙ ne_eqb _ 1 w.if-s-i-eq1.false))
-]
+loop-s-preserved c =
+    one_bit_more (λ k. bit (code_at c.args.codes.now k) c.args.i) c.loop-s.s c.loop-s.word c.with_bit-word.result c.has_bit.result c.loop-s.invariant (c.has_bit.ensures ∙ ap (λ w. bit w c.args.i) c.from.ensures)
+    c.with_bit-word.ensures.same c.with_bit-word.ensures.others c.with_bit-word.ensures.below

@@ -2,4 +2,4 @@ use Rattle.gate_core.proofs.SignalLemmas.{AreInputsTo}
 use Rattle.gate_core.proofs.first.signals.Signals.new.Given as goal
 
 abbrev pub invariant-loop-i : goal.invariant-loop-i
-invariant-loop-i l = AreInputsTo l.i l.words.items
+invariant-loop-i l = AreInputsTo l.codes l.i l.words.items

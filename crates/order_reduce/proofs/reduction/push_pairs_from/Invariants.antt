@@ -1,6 +1,0 @@
-use Rattle.std.proofs.Common.{◌≡◌, ◌++◌}
-use Rattle.order_reduce.specs.Rows.{pairs_from}
-use Rattle.order_reduce.proofs.reduction.push_pairs_from.Given as goal
-
-abbrev pub invariant-loop-v : goal.invariant-loop-v
-invariant-loop-v l = l.pairs.items ≡ l.initial.pairs.items ++ pairs_from l.rows l.v l.u.0
