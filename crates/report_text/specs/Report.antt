@@ -54,6 +54,7 @@ pub record IsReport (r : ReportValue) : Type 0 where
   pub few_scenarios : length r.scenarios ≤ 64
   pub one_name_each : length r.scenario_names ≡ length r.scenarios
   pub scenario_names : AreNames r.scenario_names
+  pub distinct_scenarios : AreDistinct r.scenario_names
   pub scenarios : All (IsReported (length r.names)) r.scenarios
   pub inputs : r.encoding.gates.inputs ≡ r.bits
   pub one_code_each : length r.encoding.codes ≡ length r.scenarios

@@ -2,7 +2,7 @@ ghost use Rattle.std.specs.Prelude.{◌≡◌};
 ghost use Rattle.report_text.specs.Report.{IsReport, module_of};
 
 use crate::Bound;
-use cpog_base::{Name, Names, Scenario};
+use cpog_base::{Names, Scenario};
 use gate_core::Encoding;
 use netlist_verilog::Module;
 use sqlite_items::Items;
@@ -14,7 +14,7 @@ use std::marker::Model;
 pub struct Report {
     bits: u8,
     budget: u32,
-    scenario_names: Items<Name>,
+    scenario_names: Names,
     scenarios: Items<Scenario>,
     encoding: Encoding,
     bound: Bound,
@@ -39,19 +39,19 @@ impl Report {
     pub fn new(
         bits: u8,
         budget: u32,
-        scenario_names: Vec<Name>,
+        scenario_names: Names,
         scenarios: Vec<Scenario>,
         encoding: Encoding,
         bound: Bound,
         design: Module,
     ) -> Report
-        requires { IsReport (record { bits = bits; budget = budget; names = design.names; scenario_names = scenario_names.items; scenarios = scenarios.items; encoding = encoding; bound = bound; netlist = design.netlist }) }
-        ensures { result ≡ record { bits = bits; budget = budget; names = design.names; scenario_names = scenario_names.items; scenarios = scenarios.items; encoding = encoding; bound = bound; netlist = design.netlist } }
+        requires { IsReport (record { bits = bits; budget = budget; names = design.names; scenario_names = scenario_names; scenarios = scenarios.items; encoding = encoding; bound = bound; netlist = design.netlist }) }
+        ensures { result ≡ record { bits = bits; budget = budget; names = design.names; scenario_names = scenario_names; scenarios = scenarios.items; encoding = encoding; bound = bound; netlist = design.netlist } }
     {
         Report {
             bits,
             budget,
-            scenario_names: Items::from_vec(scenario_names),
+            scenario_names,
             scenarios: Items::from_vec(scenarios),
             encoding,
             bound,
@@ -67,7 +67,7 @@ impl Report {
         self.bits
     }
 
-    /// How many numbers a search may read.
+    /// How many numbers a search may write to a log.
     pub fn budget(&self) -> u32
         ensures { result ≡ self.now.budget }
     {
@@ -82,10 +82,10 @@ impl Report {
     }
 
     /// The names of the scenarios.
-    pub fn scenario_names(&self) -> &[Name]
+    pub fn scenario_names(&self) -> &Names
         ensures { result.now ≡ self.now.scenario_names }
     {
-        self.scenario_names.as_slice()
+        &self.scenario_names
     }
 
     /// The scenarios.

@@ -75,11 +75,22 @@ fn put_scenario(out: &mut String, report: &Report, s: usize) -> Result<(), Alloc
     ensures { OnOk result (string_bytes out.new ≡ string_bytes out.old ++ text_of (scenario_lines report.now s)) }
 {
     let bits = report.bits();
-    let name = report.scenario_names()[s].as_str();
+    let name = scenario_name(report, s);
     let scenario = &report.scenarios()[s];
     put_code(out, name, bits, report.encoding().codes()[s])?;
     put_members(out, report.names(), scenario)?;
     put_covers(out, report.names(), scenario)
+}
+
+/// The name of a scenario.
+fn scenario_name(report: &Report, s: usize) -> &str
+    requires { s < length report.now.scenario_names }
+    ensures { result.now ≡ name_of report.now.scenario_names s }
+{
+    let names = report.scenario_names();
+    // The place is below their number, which is a u32.
+    let _count = names.len();
+    names.get(s as u32)
 }
 
 fn put_code(out: &mut String, name: &str, bits: u8, code: u8) -> Result<(), AllocError>
