@@ -2,23 +2,28 @@
 use Rattle.std.proofs.Common.{◌≡◌, ◌≢◌, ℕ, ◌<◌, ◌⊎◌, List, length, Some, None, refl, sym, ap, ap₂, ◌∙◌, subst, arith, inl, inr}
 use Rattle.std.specs.Prelude.{Option}
 use Rattle.std.proofs.lemmas.Option.{none-some, same_Some}
+use Rattle.cpog_base.specs.declared.limits.TheConstants.{INPUT_LIMIT}
 use Rattle.cpog_base.specs.declared.limits.Counted.{Counted}
 use Rattle.cpog_base.specs.declared.status.Status.{Status}
 use Rattle.cpog_base.specs.declared.status.Status.TheVariants as status
 use Rattle.cpog_outside.specs.Told.{IsAllOf, IsLonger}
 use Rattle.pg_text.specs.declared.fault.FileFault.TheVariants as fault
+use Rattle.pg_text.specs.Contents.{Contents}
 use Rattle.pg_text.specs.Lines.{graph_lines}
 use Rattle.pg_text.specs.Text.{IsGoodLine}
 use Rattle.pg_text.proofs.TextLaws.{one_file, one_first_bad, one_fault, file_has_no_fault}
 use Rattle.cpog_app.specs.declared.refusal.Refusal.TheVariants as refusal
 use Rattle.cpog_app.specs.declared.words.Command.{Command}
+use Rattle.cpog_app.specs.declared.words.Command.TheVariants as command
 use Rattle.cpog_app.specs.Words.{command_of}
-use Rattle.cpog_app.specs.Refusal.{refusal_text}
-use Rattle.cpog_app.specs.Answers.{IsFileAnswer}
-use Rattle.cpog_app.specs.Allowed.{IsBadLineAnswer, IsPassedAnswer, IsAnswerOfFile, IsTextAnswer, Input, IsAnswerToAll, IsLongAnswer, IsReadingAnswer, IsCommandAnswer}
+use Rattle.cpog_app.specs.Refusal.{refusal_text, At}
+use Rattle.cpog_app.specs.Refusals.{IsBadLineAnswer, IsPassedAnswer}
+use Rattle.cpog_app.specs.Answers.{IsSynthAnswer, IsNormalAnswer}
+use Rattle.cpog_app.specs.Allowed.{IsAnswerOfFile, IsGraphTextAnswer, Input, IsAnswerToAll, IsLongAnswer, IsReadingAnswer, IsCommandAnswer, IsWordsAnswer, IsAllowed, Ends}
+use Rattle.cpog_app.specs.Complete.{SpellFile, AreGoodFor, IsGoodRun, RunsAreComplete}
 use Rattle.cpog_app.specs.Laws.{AllowedAgree}
-use Rattle.cpog_app.proofs.Causes.{Cause, Agree, IsOne, AreApart, at_status, either, one_at, one_either}
-use Rattle.cpog_app.proofs.FileAgreement.{file_answers_agree}
+use Rattle.cpog_app.proofs.Causes.{Cause, Agree, IsOne, AreApart, either, one_at, one_either}
+use Rattle.cpog_app.proofs.FileAgreement.{synth_answers_agree, normal_answers_agree, synth_is_ok, normal_is_ok}
 
 -- ---- one answer to a text
 
@@ -38,34 +43,16 @@ line_not_limit n what limit e = cc
 same_counted : (what other : Counted) (limit most : ℕ) → fault.Limit what limit ≡ fault.Limit other most → (what ≡ other) × (limit ≡ most)
 same_counted what other limit most e = (cc, cc)
 
-module _ (command : Command) (bytes : List ℕ) where
+-- the answers to a graph text, where a file has one
+module _ (OfFile : Contents → Cause) (one_answer : (f : Contents) → IsOne (OfFile f)) (bytes : List ℕ) where
   abbrev bad_line : Cause
-  bad_line = at_status status.Text (IsBadLineAnswer bytes)
+  bad_line = At status.Text (IsBadLineAnswer bytes)
 
   abbrev passed : Cause
-  passed = at_status status.Limit (IsPassedAnswer bytes)
+  passed = At status.Limit (IsPassedAnswer bytes)
 
   abbrev of_file : Cause
-  of_file = IsAnswerOfFile command bytes
-
-  -- a bad line, a passed count, or a file
-  abbrev text_cause : Cause
-  text_cause = either bad_line (either passed of_file)
-
-  -- a limit is passed by the text or by its file
-  passed_or_of_file : (x : List ℕ) → IsPassedAnswer bytes x ⊎ IsAnswerOfFile command bytes status.Limit x → text_cause status.Limit x
-  passed_or_of_file x (inl h) = inr (inl (refl, h))
-  passed_or_of_file x (inr h) = inr (inr h)
-
-  -- each answer to a text has such a cause
-  cause_of_text : (s : Status) (x : List ℕ) → IsTextAnswer command bytes s x → text_cause s x
-  cause_of_text status.Text x h = inl (refl, h)
-  cause_of_text status.Limit x h = passed_or_of_file x h
-  cause_of_text status.Ok x h = inr (inr h)
-  cause_of_text status.Names x h = inr (inr h)
-  cause_of_text status.Cyclic x h = inr (inr h)
-  cause_of_text status.Equal x h = inr (inr h)
-  cause_of_text other x h = absurd h
+  of_file = IsAnswerOfFile OfFile bytes
 
   -- the first bad line is printed in one way
   one_bad_line : (x y : List ℕ) → IsBadLineAnswer bytes x → IsBadLineAnswer bytes y → x ≡ y
@@ -79,27 +66,24 @@ module _ (command : Command) (bytes : List ℕ) where
 
   -- the file of a text has one answer
   one_of_file : IsOne of_file
-  one_of_file s t x y h k = file_answers_agree h.file command s t x y h.answer (subst (λ f. IsFileAnswer command f t y) (one_file bytes k.file h.file k.is_file h.is_file) k.answer)
+  one_of_file s t x y h k = one_answer h.file s t x y h.answer (subst (λ f. OfFile f t y) (one_file bytes k.file h.file k.is_file h.is_file) k.answer)
 
-  -- a text that passes a count has no file
-  passed_or_file : AreApart passed of_file
-  passed_or_file s t x y h k = limit_not_memory h.1.what h.1.limit (file_has_no_fault bytes k.file (fault.Limit h.1.what h.1.limit) k.is_file h.1.passed)
-
-  -- a text with a bad line passes no count and has no file
-  line_or_more : AreApart bad_line (either passed of_file)
-  line_or_more s t x y h (inl k) =
+  -- a text with a bad line passes no count
+  line_or_passed : AreApart bad_line passed
+  line_or_passed s t x y h k =
       line_not_limit h.1.line k.1.what k.1.limit (one_fault bytes (fault.BadLine h.1.line) (fault.Limit k.1.what k.1.limit) h.1.first k.1.passed (line_not_memory h.1.line) (limit_not_memory k.1.what k.1.limit))
-  line_or_more s t x y h (inr k) = line_not_memory h.1.line (file_has_no_fault bytes k.file (fault.BadLine h.1.line) k.is_file h.1.first)
 
-  one_text : IsOne text_cause
-  one_text =
-      one_either bad_line (either passed of_file) (one_at status.Text (IsBadLineAnswer bytes) one_bad_line)
-      (one_either passed of_file (one_at status.Limit (IsPassedAnswer bytes) one_passed) one_of_file passed_or_file)
-      line_or_more
+  -- a text that is refused has no file
+  refused_or_file : AreApart (either bad_line passed) of_file
+  refused_or_file s t x y (inl h) k = line_not_memory h.1.line (file_has_no_fault bytes k.file (fault.BadLine h.1.line) k.is_file h.1.first)
+  refused_or_file s t x y (inr h) k = limit_not_memory h.1.what h.1.limit (file_has_no_fault bytes k.file (fault.Limit h.1.what h.1.limit) k.is_file h.1.passed)
 
-  -- a text has one answer
-  text_answers_agree : (s t : Status) (x y : List ℕ) → IsTextAnswer command bytes s x → IsTextAnswer command bytes t y → Agree s x t y
-  text_answers_agree s t x y h k = one_text s t x y (cause_of_text s x h) (cause_of_text t y k)
+  -- a graph text has one answer
+  graph_text_answers_agree : IsOne (IsGraphTextAnswer OfFile bytes)
+  graph_text_answers_agree =
+      one_either (either bad_line passed) of_file
+      (one_either bad_line passed (one_at status.Text (IsBadLineAnswer bytes) one_bad_line) (one_at status.Limit (IsPassedAnswer bytes) one_passed) line_or_passed)
+      one_of_file refused_or_file
 
 -- ---- one answer to words and told bytes
 
@@ -113,57 +97,72 @@ longer_told : (limit : ℕ) (left : Option (List ℕ)) (told : List ℕ) → lef
 longer_told limit None told e h = absurd (none-some told e)
 longer_told limit (Some xs) told e h = subst (λ ys. limit < length ys) (same_Some xs told e) h
 
--- more than the limit, or an answer to all
-abbrev reading_cause : Command → Input → Cause
-reading_cause command input s x = ((s ≡ status.Limit) × IsLongAnswer input x) ⊎ IsAnswerToAll command input s x
-
--- the input's limit is passed, or one of its text's
-long_or_all : (command : Command) (input : Input) (x : List ℕ) → IsLongAnswer input x ⊎ IsAnswerToAll command input status.Limit x → reading_cause command input status.Limit x
-long_or_all command input x (inl h) = inl (refl, h)
-long_or_all command input x (inr h) = inr h
-
--- each answer but a read fault has such a cause
-cause_of_reading : (command : Command) (input : Input) (s : Status) (x : List ℕ) → s ≢ status.ReadFault → IsReadingAnswer command input s x → reading_cause command input s x
-cause_of_reading command input status.ReadFault x n h = absurd (n refl)
-cause_of_reading command input status.Limit x n h = long_or_all command input x h
-cause_of_reading command input status.Ok x n h = inr h
-cause_of_reading command input status.Text x n h = inr h
-cause_of_reading command input status.Names x n h = inr h
-cause_of_reading command input status.Cyclic x n h = inr h
-cause_of_reading command input status.Equal x n h = inr h
-cause_of_reading command input other x n h = absurd h
-
--- words that name no command have one answer
-usage_only : (input : Input) (s : Status) (x : List ℕ) → IsCommandAnswer None input s x → (s ≡ status.Usage) × (x ≡ refusal_text refusal.Usage)
-usage_only input status.Usage x h = (refl, h.output_is)
-usage_only input other x h = absurd h
-
 -- two inputs that tell the same bytes
 module _ (told : List ℕ) (a b : Input) (p : a.left ≡ Some told) (q : b.left ≡ Some told) where
-  -- all of the bytes has one answer
-  answers_to_all_agree : (command : Command) (s t : Status) (x y : List ℕ) → IsAnswerToAll command a s x → IsAnswerToAll command b t y → Agree s x t y
-  answers_to_all_agree command s t x y h k =
-      let same : k.bytes ≡ h.bytes = all_told b.left b.left_after told k.bytes q k.all ∙ sym (all_told a.left a.left_after told h.bytes p h.all) in
-      text_answers_agree command h.bytes s t x y h.answer (subst (λ bytes. IsTextAnswer command bytes t y) same k.answer)
+  -- of which one answer is made
+  module _ (limit : ℕ) (OfBytes : List ℕ → Cause) (one_answer : (bytes : List ℕ) → IsOne (OfBytes bytes)) where
+    long_or_all : (i j : Input) → i.left ≡ Some told → j.left ≡ Some told → (s : Status) (x y : List ℕ) → IsLongAnswer limit i x → IsAnswerToAll limit OfBytes j s y → ⊥
+    long_or_all i j p q s x y h k =
+        let many = longer_told limit i.left told p h.longer in
+        let all : length k.bytes ≡ length told = ap length (all_told j.left j.left_after told k.bytes q k.all) in
+        omega (arith, many, all, k.within)
 
-  -- the bytes are longer than the limit or not
-  causes_agree : (command : Command) (s t : Status) (x y : List ℕ) → reading_cause command a s x → reading_cause command b t y → Agree s x t y
-  causes_agree command s t x y (inl h) (inl k) = (h.0 ∙ sym k.0, h.1.output_is ∙ sym k.1.output_is)
-  causes_agree command s t x y (inl h) (inr k) =
-      let many = longer_told 1048576 a.left told p h.1.longer in
-      let all : length k.bytes ≡ length told = ap length (all_told b.left b.left_after told k.bytes q k.all) in
-      absurd (omega (arith, many, all, k.within))
-  causes_agree command s t x y (inr h) (inl k) =
-      let many = longer_told 1048576 b.left told q k.1.longer in
-      let all : length h.bytes ≡ length told = ap length (all_told a.left a.left_after told h.bytes p h.all) in
-      absurd (omega (arith, many, all, h.within))
-  causes_agree command s t x y (inr h) (inr k) = answers_to_all_agree command s t x y h k
+    -- the bytes are longer than the limit or not
+    readings_agree : (s t : Status) (x y : List ℕ) → s ≢ status.ReadFault → t ≢ status.ReadFault → IsReadingAnswer limit OfBytes a s x → IsReadingAnswer limit OfBytes b t y → Agree s x t y
+    readings_agree s t x y m n (inl (inl h)) k = absurd (m h.0)
+    readings_agree s t x y m n (inl (inr h)) (inl (inl k)) = absurd (n k.0)
+    readings_agree s t x y m n (inl (inr h)) (inl (inr k)) = (h.0 ∙ sym k.0, h.1.output_is ∙ sym k.1.output_is)
+    readings_agree s t x y m n (inl (inr h)) (inr k) = absurd (long_or_all a b p q t x y h.1 k)
+    readings_agree s t x y m n (inr h) (inl (inl k)) = absurd (n k.0)
+    readings_agree s t x y m n (inr h) (inl (inr k)) = absurd (long_or_all b a q p s y x k.1 h)
+    readings_agree s t x y m n (inr h) (inr k) =
+        let same : k.bytes ≡ h.bytes = all_told b.left b.left_after told k.bytes q k.all ∙ sym (all_told a.left a.left_after told h.bytes p h.all) in
+        one_answer h.bytes s t x y h.answer (subst (λ bytes. OfBytes bytes t y) same k.answer)
 
   -- a command has one answer
-  command_answers_agree : (c : Option Command) (s t : Status) (x y : List ℕ) → s ≢ status.ReadFault → t ≢ status.ReadFault → IsCommandAnswer c a s x → IsCommandAnswer c b t y → Agree s x t y
-  command_answers_agree None s t x y m n h k = let first = usage_only a s x h in let second = usage_only b t y k in (first.0 ∙ sym second.0, first.1 ∙ sym second.1)
-  command_answers_agree (Some command) s t x y m n h k = causes_agree command s t x y (cause_of_reading command a s x m h) (cause_of_reading command b t y n k)
+  command_answers_agree : (c : Command) (s t : Status) (x y : List ℕ) → s ≢ status.ReadFault → t ≢ status.ReadFault → IsCommandAnswer c a s x → IsCommandAnswer c b t y → Agree s x t y
+  command_answers_agree (command.Synth options) s t x y m n h k = readings_agree INPUT_LIMIT (IsGraphTextAnswer (IsSynthAnswer options)) (graph_text_answers_agree (IsSynthAnswer options) (synth_answers_agree options)) s t x y m n h k
+  command_answers_agree command.Normal s t x y m n h k = readings_agree INPUT_LIMIT (IsGraphTextAnswer IsNormalAnswer) (graph_text_answers_agree IsNormalAnswer normal_answers_agree) s t x y m n h k
+
+  -- so have words
+  words_answers_agree : (c : Option Command) (s t : Status) (x y : List ℕ) → s ≢ status.ReadFault → t ≢ status.ReadFault → IsWordsAnswer c a s x → IsWordsAnswer c b t y → Agree s x t y
+  words_answers_agree None s t x y m n h k = (h.0 ∙ sym k.0, h.1.output_is ∙ sym k.1.output_is)
+  words_answers_agree (Some c) s t x y m n h k = command_answers_agree c s t x y m n h k
 
 -- the same words and told bytes have one answer
 pub allowed_agree : AllowedAgree
-allowed_agree words told a b s t x y p q h k m n = command_answers_agree told a b p q (command_of words) s t x y m n h k
+allowed_agree words told a b s t x y p q h k m n = words_answers_agree told a b p q (command_of words) s t x y m n h k
+
+-- ---- a run that is refused for no cause
+
+-- all of a graph text that spells such a file is answered at status 0
+module _ (OfFile : Contents → Cause) (Good : Contents → Type 0) (is_ok : (f : Contents) → Good f → (s : Status) (x : List ℕ) → OfFile f s x → s ≡ status.Ok)
+    (told : List ℕ) (good : SpellFile Good told) where
+  text_is_ok : (s : Status) (x : List ℕ) → IsGraphTextAnswer OfFile told s x → s ≡ status.Ok
+  text_is_ok s x (inl (inl h)) = absurd (line_not_memory h.1.line (file_has_no_fault told good.file (fault.BadLine h.1.line) good.is_file h.1.first))
+  text_is_ok s x (inl (inr h)) = absurd (limit_not_memory h.1.what h.1.limit (file_has_no_fault told good.file (fault.Limit h.1.what h.1.limit) good.is_file h.1.passed))
+  text_is_ok s x (inr h) = is_ok good.file good.holds s x (subst (λ f. OfFile f s x) (one_file told h.file good.file h.is_file good.is_file) h.answer)
+
+  reading_is_ok : (input : Input) → input.left ≡ Some told → (s : Status) (x : List ℕ) → s ≢ status.ReadFault → IsReadingAnswer INPUT_LIMIT (IsGraphTextAnswer OfFile) input s x → s ≡ status.Ok
+  reading_is_ok input left s x n (inl (inl h)) = absurd (n h.0)
+  reading_is_ok input left s x n (inl (inr h)) = absurd (omega (arith, longer_told INPUT_LIMIT input.left told left h.1.longer, good.within))
+  reading_is_ok input left s x n (inr h) =
+      let same : h.bytes ≡ told = all_told input.left input.left_after told h.bytes left h.all in
+      text_is_ok s x (subst (λ bytes. IsGraphTextAnswer OfFile bytes s x) same h.answer)
+
+command_is_ok : (c : Command) (told : List ℕ) → AreGoodFor c told → (input : Input) → input.left ≡ Some told → (s : Status) (x : List ℕ) → s ≢ status.ReadFault → IsCommandAnswer c input s x → s ≡ status.Ok
+command_is_ok (command.Synth options) told good = reading_is_ok (IsSynthAnswer options) _ (synth_is_ok options) told good
+command_is_ok command.Normal told good = reading_is_ok IsNormalAnswer _ normal_is_ok told good
+
+module _ (words : List (List ℕ)) (told : List ℕ) (input : Input) (left : input.left ≡ Some told) (good : IsGoodRun words told) where
+  allowed_is_ok : (s : Status) (x : List ℕ) → s ≢ status.ReadFault → IsAllowed words input s x → s ≡ status.Ok
+  allowed_is_ok s x n h = command_is_ok good.command told good.good input left s x n (subst (λ c. IsWordsAnswer c input s x) good.named h)
+
+  run_is_ok : (taken taken_after : Option (List ℕ)) (s : Status) → Ends words input taken taken_after s → s ≢ status.ReadFault → s ≢ status.WriteFault → (s ≡ status.Ok) ⊎ (s ≡ status.Memory)
+  run_is_ok taken after status.Memory h m n = inr refl
+  run_is_ok taken after status.WriteFault h m n = absurd (n refl)
+  run_is_ok taken after other h m n = inl (allowed_is_ok other h.output m h.allowed)
+
+-- a good run in which no end fails is complete
+pub complete : RunsAreComplete
+complete words told input taken after s left good h m n = run_is_ok words told input left good taken after s h m n

@@ -1,6 +1,6 @@
 -- The bits of codes: what a command says of them, and that they are one number.
 use Rattle.std.proofs.Common.{◌≡◌, ◌≤◌, ◌-◌, ℕ, List, [], ◌∷◌, Some, None, true, false, Bool, refl, sym, ◌∙◌, subst, arith, if◌then◌else◌}
-use Rattle.std.specs.Prelude.{Option, nat_lt, ◌&&◌}
+use Rattle.std.specs.Prelude.{Option, nat_lt, ◌&&◌, option_and_then}
 use Rattle.std.proofs.lemmas.Bool.{and_parts}
 use Rattle.std.proofs.lemmas.Bool.Decides.{nat_tests}
 use Rattle.std.proofs.lemmas.Option.{none-some, same_Some}
@@ -8,10 +8,10 @@ use Rattle.opcode_assign.specs.Bits.{IsLeastBits}
 use Rattle.cpog_app.specs.declared.words.Command.{Command}
 use Rattle.cpog_app.specs.declared.words.Command.TheVariants as command
 use Rattle.cpog_app.specs.Words.{bits_in, synth_over, command_of}
-use Rattle.cpog_app.specs.Bits.{MayBeNamed, IsBits}
+use Rattle.cpog_app.specs.Bits.{MayBeSaid, MayBeNamed, IsBits}
 
 -- one number is the least
-pub one_least : (n a b : ℕ) → IsLeastBits n a → IsLeastBits n b → a ≡ b
+pub one_least : (n a b : ℕ) → IsLeastBits 1 n a → IsLeastBits 1 n b → a ≡ b
 one_least n a b h k = omega (arith, h.least b k.some k.enough, k.least a h.some h.enough)
 
 -- the bits of so many scenarios are one number
@@ -34,18 +34,22 @@ said_in (digit ∷ []) n e = one (nat_lt 48 digit && nat_lt digit 57) refl e
         (grind (arith, nat_tests, parts.0, same), grind (arith, nat_tests, parts.1, same))
 said_in (a ∷ b ∷ word) n e = absurd (none-some n e)
 
-one_word : (synth normal : Bool) (c : Command) → (if synth then Some (command.Synth None) else (if normal then Some command.Normal else None)) ≡ Some c → MayBeNamed c
-one_word true normal c e = subst MayBeNamed (same_Some (command.Synth None) c e) tt
+-- `synth` over such bits may be named
+synth_may : (bits : Option ℕ) (c : Command) → MayBeSaid bits → synth_over bits ≡ c → MayBeNamed c
+synth_may bits c may e = subst MayBeNamed e (record { bits = may; some_budget = omega arith; few_budget = omega arith })
+
+one_word : (synth normal : Bool) (c : Command) → (if synth then Some (synth_over None) else (if normal then Some command.Normal else None)) ≡ Some c → MayBeNamed c
+one_word true normal c e = synth_may None c tt (same_Some (synth_over None) c e)
 one_word false true c e = subst MayBeNamed (same_Some command.Normal c e) tt
 one_word false false c e = absurd (none-some c e)
 
-with_value : (t : Bool) (value : List ℕ) (c : Command) → (if t then synth_over (bits_in value) else None) ≡ Some c → MayBeNamed c
+with_value : (t : Bool) (value : List ℕ) (c : Command) → (if t then option_and_then (λ bits. Some (synth_over (Some bits))) (bits_in value) else None) ≡ Some c → MayBeNamed c
 with_value false value c e = absurd (none-some c e)
 with_value true value c e = over (bits_in value) refl e
   where
-    over : (said : Option ℕ) → bits_in value ≡ said → synth_over said ≡ Some c → MayBeNamed c
+    over : (said : Option ℕ) → bits_in value ≡ said → option_and_then (λ bits. Some (synth_over (Some bits))) said ≡ Some c → MayBeNamed c
     over None p e = absurd (none-some c e)
-    over (Some n) p e = subst MayBeNamed (same_Some (command.Synth (Some n)) c e) (said_in value n p)
+    over (Some n) p e = synth_may (Some n) c (said_in value n p) (same_Some (synth_over (Some n)) c e)
 
 -- so does the command that words name
 pub may_be_named : (words : List (List ℕ)) (c : Command) → command_of words ≡ Some c → MayBeNamed c

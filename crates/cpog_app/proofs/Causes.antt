@@ -1,6 +1,7 @@
 -- Causes of answers: each has a status and an output, and one of them has a turn before the other.
 use Rattle.std.proofs.Common.{◌≡◌, ◌⊎◌, ℕ, List, sym, ◌∙◌, inl, inr}
 use Rattle.cpog_base.specs.declared.status.Status.{Status}
+use Rattle.cpog_app.specs.Refusal.{At}
 
 -- what is printed at a status for a cause
 abbrev pub Cause : Type 1
@@ -17,15 +18,11 @@ IsOne c = (s t : Status) (x y : List ℕ) → c s x → c t y → Agree s x t y
 abbrev pub AreApart : Cause → Cause → Type 0
 AreApart c d = (s t : Status) (x y : List ℕ) → c s x → d t y → ⊥
 
--- at one status
-abbrev pub at_status : Status → (List ℕ → Type 0) → Cause
-at_status status answer s x = (s ≡ status) × answer x
-
 -- one or the other
 abbrev pub either : Cause → Cause → Cause
 either c d s x = c s x ⊎ d s x
 
-pub one_at : (status : Status) (answer : List ℕ → Type 0) → ((x y : List ℕ) → answer x → answer y → x ≡ y) → IsOne (at_status status answer)
+pub one_at : (status : Status) (answer : List ℕ → Type 0) → ((x y : List ℕ) → answer x → answer y → x ≡ y) → IsOne (At status answer)
 one_at status answer one s t x y h k = (h.0 ∙ sym k.0, one x y h.1 k.1)
 
 pub one_either : (c d : Cause) → IsOne c → IsOne d → AreApart c d → IsOne (either c d)

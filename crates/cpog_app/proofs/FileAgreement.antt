@@ -1,5 +1,5 @@
 -- What is printed for a file is one answer: each cause has one output, and it stands only where no cause before it does.
-use Rattle.std.proofs.Common.{◌≡◌, ◌⊎◌, ℕ, ◌≤◌, ◌^◌, List, [], length, map, Some, None, slice_get, refl, sym, ap, ap₂, ◌∙◌, subst, arith, inl, inr}
+use Rattle.std.proofs.Common.{◌≡◌, ℕ, ◌≤◌, ◌^◌, List, [], length, map, Some, slice_get, sym, ap, ap₂, ◌∙◌, subst, arith, inl, inr}
 use Rattle.std.specs.Prelude.{Option}
 use Rattle.std.proofs.lemmas.Bool.{cases_lt}
 use Rattle.std.proofs.lemmas.List.{length-map}
@@ -18,20 +18,23 @@ use Rattle.pg_normal.specs.Normals.{params_in}
 use Rattle.scenario_check.specs.Equals.{AreEqualAt, IsFirstPair}
 use Rattle.report_text.specs.Rows.{report_lines}
 use Rattle.cpog_app.specs.declared.refusal.Refusal.TheVariants as refusal
-use Rattle.cpog_app.specs.declared.words.Command.{Command}
-use Rattle.cpog_app.specs.declared.words.Command.TheVariants as command
+use Rattle.cpog_app.specs.declared.words.SynthOptions.{SynthOptions}
 use Rattle.cpog_app.specs.Bits.{IsBits}
 use Rattle.cpog_app.specs.Refusal.{refusal_text, IsNamesLine}
-use Rattle.cpog_app.specs.Denoting.{Stated, stated_in, scenario_names_of, AreScenariosOf, AreOrdersIn, LeavesOpen, IsFirstUnbound}
-use Rattle.cpog_app.specs.Synthesis.{AreDifferent}
-use Rattle.cpog_app.specs.Answers.{IsNameFaultAnswer, IsFormsAnswer, IsNormalAnswer, IsEmptyAnswer, IsUnboundAnswer, IsCyclicAnswer, IsEqualAnswer, IsManyAnswer, IsReportAnswer, IsSynthAnswer, IsFileAnswer}
-use Rattle.cpog_app.proofs.Causes.{Cause, Agree, IsOne, AreApart, at_status, either, one_at, one_either}
+use Rattle.pg_normal.specs.Denoting.{Stated, stated_in, scenario_names_of, AreScenariosOf, LeavesOpen, IsFirstUnbound}
+use Rattle.cpog_app.specs.Ordered.{AreOrdersIn}
+use Rattle.scenario_check.specs.Equals.{AreDifferent}
+use Rattle.cpog_app.specs.Refusal.{At}
+use Rattle.cpog_app.specs.Refusals.{IsNameFaultAnswer, IsEmptyAnswer, IsUnboundAnswer, IsCyclicAnswer, IsEqualAnswer, IsManyAnswer}
+use Rattle.cpog_app.specs.Answers.{IsFormsAnswer, IsNormalAnswer, IsReportAnswer, IsSynthAnswer}
+use Rattle.cpog_app.specs.Complete.{CanBeEncoded}
+use Rattle.cpog_app.proofs.Causes.{Cause, IsOne, AreApart, either, one_at, one_either}
 use Rattle.cpog_app.proofs.BitLemmas.{one_bits}
 use Rattle.cpog_app.proofs.DenotingLemmas.{none_open, length-denoted}
 use Rattle.cpog_app.proofs.OrderAgreement.{one_orders, cyclic_again}
 use Rattle.cpog_app.proofs.ReportLemmas.{length-orders}
 use Rattle.cpog_app.proofs.ReportAgreement.{one_report}
-use Rattle.cpog_app.proofs.CycleAgreement.{cyclic_or_orders, first_least}
+use Rattle.scenario_check.proofs.CycleLemmas.{cyclic_or_ordered, one_first}
 use Rattle.pg_normal.proofs.TextLaws.{one_normal_text}
 
 -- ---- what comes first is one
@@ -90,9 +93,7 @@ first_pair orders l m e g a b = elim (cases_lt l m) [
   ]
 ]
 
-module _ (said : Option ℕ) (f : Contents) where
-  -- ---- each cause has one output
-
+module _ (f : Contents) where
   one_fault_answer : (x y : List ℕ) → IsNameFaultAnswer f x → IsNameFaultAnswer f y → x ≡ y
   one_fault_answer x y h k =
       let same : h.fault ≡ k.fault = same_Some h.fault k.fault (sym (told (name_faults f) h.fault x h.first h.output_is) ∙ told (name_faults f) k.fault y k.first k.output_is) in
@@ -100,6 +101,24 @@ module _ (said : Option ℕ) (f : Contents) where
 
   one_forms_answer : (x y : List ℕ) → IsFormsAnswer f x → IsFormsAnswer f y → x ≡ y
   one_forms_answer x y h k = h.output_is ∙ one_normal_text f h.normals k.normals h.of_file k.of_file ∙ sym k.output_is
+
+  abbrev name_fault : Cause
+  name_fault = At status.Names (IsNameFaultAnswer f)
+
+  abbrev forms : Cause
+  forms = At status.Ok (IsFormsAnswer f)
+
+  no_fault : (x : List ℕ) → name_faults f ≡ [] → IsNameFaultAnswer f x → ⊥
+  no_fault x none h = none-some h.fault (ap first (sym none) ∙ told (name_faults f) h.fault x h.first h.output_is)
+
+  one_normal : IsOne (either name_fault forms)
+  one_normal = one_either name_fault forms (one_at status.Names (IsNameFaultAnswer f) one_fault_answer) (one_at status.Ok (IsFormsAnswer f) one_forms_answer) (λ s t x y h k. no_fault x k.1.of_file.names h.1)
+
+module _ (options : SynthOptions) (f : Contents) where
+  abbrev said : Option ℕ
+  said = options.bits
+
+  -- ---- each cause has one output
 
   one_empty_answer : (x y : List ℕ) → IsEmptyAnswer f x → IsEmptyAnswer f y → x ≡ y
   one_empty_answer x y h k = h.output_is ∙ sym k.output_is
@@ -112,7 +131,7 @@ module _ (said : Option ℕ) (f : Contents) where
 
   one_cyclic_answer : (x y : List ℕ) → IsCyclicAnswer f x → IsCyclicAnswer f y → x ≡ y
   one_cyclic_answer x y h k =
-      let same = first_least k.scenarios h.number k.number h.operation k.operation (cyclic_again f h.scenarios k.scenarios h.number h.operation h.denoted k.denoted h.first) k.first in
+      let same = one_first k.scenarios h.number k.number h.operation k.operation (cyclic_again f h.scenarios k.scenarios h.number h.operation h.denoted k.denoted h.first) k.first in
       let scenario : h.scenario_name ≡ k.scenario_name = same_Some h.scenario_name k.scenario_name (sym h.scenario_is ∙ ap (slice_get (scenario_names_of f)) same.0 ∙ k.scenario_is) in
       let operation : h.operation_name ≡ k.operation_name = same_Some h.operation_name k.operation_name (sym h.operation_is ∙ ap (slice_get f.operations) same.1 ∙ k.operation_is) in
       h.output_is ∙ ap₂ (λ a b. refusal_text (refusal.Cyclic a b)) scenario operation ∙ sym k.output_is
@@ -130,34 +149,28 @@ module _ (said : Option ℕ) (f : Contents) where
       let bits : h.bits ≡ k.bits = one_bits said (length h.orders) h.bits k.bits h.bits_are (subst (λ os. IsBits said (length os) k.bits) orders k.bits_are) in
       h.output_is ∙ ap (λ n. refusal_text (refusal.Limit counted.Bits n)) bits ∙ sym k.output_is
 
-  one_report_answer : (x y : List ℕ) → IsReportAnswer said f x → IsReportAnswer said f y → x ≡ y
-  one_report_answer x y h k = h.output_is ∙ ap (λ r. text_of (report_lines r)) (one_report said f h.report k.report h.synthesis k.synthesis) ∙ sym k.output_is
+  one_report_answer : (x y : List ℕ) → IsReportAnswer options f x → IsReportAnswer options f y → x ≡ y
+  one_report_answer x y h k = h.output_is ∙ ap (λ r. text_of (report_lines r)) (one_report options f h.report k.report h.synthesis k.synthesis) ∙ sym k.output_is
 
   -- ---- the causes in their order
 
-  abbrev name_fault : Cause
-  name_fault = at_status status.Names (IsNameFaultAnswer f)
-
-  abbrev forms : Cause
-  forms = at_status status.Ok (IsFormsAnswer f)
-
   abbrev empty : Cause
-  empty = at_status status.Names (IsEmptyAnswer f)
+  empty = At status.Names (IsEmptyAnswer f)
 
   abbrev unbound : Cause
-  unbound = at_status status.Names (IsUnboundAnswer f)
+  unbound = At status.Names (IsUnboundAnswer f)
 
   abbrev cyclic : Cause
-  cyclic = at_status status.Cyclic (IsCyclicAnswer f)
+  cyclic = At status.Cyclic (IsCyclicAnswer f)
 
   abbrev equal : Cause
-  equal = at_status status.Equal (IsEqualAnswer f)
+  equal = At status.Equal (IsEqualAnswer f)
 
   abbrev many : Cause
-  many = at_status status.Limit (IsManyAnswer said f)
+  many = At status.Limit (IsManyAnswer said f)
 
   abbrev report : Cause
-  report = at_status status.Ok (IsReportAnswer said f)
+  report = At status.Ok (IsReportAnswer options f)
 
   abbrev from_many : Cause
   from_many = either many report
@@ -177,7 +190,7 @@ module _ (said : Option ℕ) (f : Contents) where
   -- from there on no two scenarios are equal
   different : (s : Status) (x : List ℕ) → from_many s x → (orders : List Order) × AreOrdersIn f orders × AreDifferent orders
   different s x (inl h) = (h.1.orders, h.1.of_file, h.1.different)
-  different s x (inr h) = (h.1.synthesis.orders, h.1.synthesis.of_file, h.1.synthesis.different)
+  different s x (inr h) = (h.1.synthesis.sound.orders, h.1.synthesis.sound.of_file, h.1.synthesis.sound.different)
 
   -- and none has an operation before itself
   ordered : (s : Status) (x : List ℕ) → from_equal s x → (orders : List Order) × AreOrdersIn f orders
@@ -201,9 +214,6 @@ module _ (said : Option ℕ) (f : Contents) where
 
   -- ---- each stands where none before it does
 
-  no_fault : (x : List ℕ) → name_faults f ≡ [] → IsNameFaultAnswer f x → ⊥
-  no_fault x none h = none-some h.fault (ap first (sym none) ∙ told (name_faults f) h.fault x h.first h.output_is)
-
   -- a file without scenarios has none that is cyclic, equal to another, or printed
   none_there : (s : Status) (x : List ℕ) → stated_in f ≡ [] → from_unbound s x → ⊥
   none_there s x none (inl h) = none-some h.1.first.scenario (ap (λ xs. slice_get xs h.1.first.place) (sym none) ∙ h.1.first.stands)
@@ -217,14 +227,14 @@ module _ (said : Option ℕ) (f : Contents) where
       no_orders : (orders : List Order) → AreOrdersIn f orders → length orders ≡ 0
       no_orders orders z = length-orders z.scenarios orders z.of_scenarios ∙ length-denoted (length f.operations) (stated_in f) z.scenarios z.denoted ∙ ap length none
   none_there s x none (inr (inr (inr (inr h)))) =
-      let names : length h.1.report.scenario_names ≡ 0 = ap length h.1.synthesis.scenario_names ∙ length-map (stated_in f) _ ∙ ap length none in
-      absurd (omega (arith, names, h.1.synthesis.report.one_name_each, h.1.synthesis.report.some_scenario))
+      let names : length h.1.report.scenario_names ≡ 0 = ap length h.1.synthesis.sound.scenario_names ∙ length-map (stated_in f) _ ∙ ap length none in
+      absurd (omega (arith, names, h.1.synthesis.sound.report.one_name_each, h.1.synthesis.sound.report.some_scenario))
 
   many_or_report : AreApart many report
   many_or_report s t x y h k =
-      let same : length h.1.orders ≡ length k.1.synthesis.orders = ap length (one_orders f h.1.orders k.1.synthesis.orders h.1.of_file k.1.synthesis.of_file) in
+      let same : length h.1.orders ≡ length k.1.synthesis.sound.orders = ap length (one_orders f h.1.orders k.1.synthesis.sound.orders h.1.of_file k.1.synthesis.sound.of_file) in
       let bits : h.1.bits ≡ k.1.report.bits = one_bits said (length h.1.orders) h.1.bits k.1.report.bits h.1.bits_are (subst (λ n. IsBits said n k.1.report.bits) (sym same) k.1.synthesis.bits) in
-      let few : length k.1.synthesis.orders ≤ 2 ^ h.1.bits = subst (λ n. length k.1.synthesis.orders ≤ 2 ^ n) (sym bits) k.1.synthesis.enough_bits in
+      let few : length k.1.synthesis.sound.orders ≤ 2 ^ h.1.bits = subst (λ n. length k.1.synthesis.sound.orders ≤ 2 ^ n) (sym bits) k.1.synthesis.sound.enough_bits in
       absurd (omega (arith, same, few, h.1.many))
 
   equal_or_more : AreApart equal from_many
@@ -235,7 +245,7 @@ module _ (said : Option ℕ) (f : Contents) where
   cyclic_or_more : AreApart cyclic from_equal
   cyclic_or_more s t x y h k =
       let rest = ordered t y k in
-      cyclic_or_orders rest.1.scenarios rest.0 h.1.number h.1.operation (cyclic_again f h.1.scenarios rest.1.scenarios h.1.number h.1.operation h.1.denoted rest.1.denoted h.1.first) rest.1.of_scenarios
+      cyclic_or_ordered rest.1.scenarios rest.0 h.1.number h.1.operation (cyclic_again f h.1.scenarios rest.1.scenarios h.1.number h.1.operation h.1.denoted rest.1.denoted h.1.first) rest.1.of_scenarios
 
   unbound_or_more : AreApart unbound from_cyclic
   unbound_or_more s t x y h k =
@@ -244,42 +254,71 @@ module _ (said : Option ℕ) (f : Contents) where
 
   -- ---- a file has one answer
 
-  one_synth : IsOne (either name_fault from_empty)
+  one_synth : IsOne (either (name_fault f) from_empty)
   one_synth =
-      one_either name_fault from_empty (one_at status.Names (IsNameFaultAnswer f) one_fault_answer)
+      one_either (name_fault f) from_empty (one_at status.Names (IsNameFaultAnswer f) (one_fault_answer f))
       (one_either empty from_unbound (one_at status.Names (IsEmptyAnswer f) one_empty_answer)
       (one_either unbound from_cyclic (one_at status.Names (IsUnboundAnswer f) one_unbound_answer)
       (one_either cyclic from_equal (one_at status.Cyclic (IsCyclicAnswer f) one_cyclic_answer)
       (one_either equal from_many (one_at status.Equal (IsEqualAnswer f) one_equal_answer)
-      (one_either many report (one_at status.Limit (IsManyAnswer said f) one_many_answer) (one_at status.Ok (IsReportAnswer said f) one_report_answer) many_or_report)
+      (one_either many report (one_at status.Limit (IsManyAnswer said f) one_many_answer) (one_at status.Ok (IsReportAnswer options f) one_report_answer) many_or_report)
       equal_or_more)
       cyclic_or_more)
       unbound_or_more)
       (λ s t x y h k. none_there t y h.1.none k))
-      (λ s t x y h k. no_fault x (named t y k) h.1)
+      (λ s t x y h k. no_fault f x (named t y k) h.1)
 
-  one_normal : IsOne (either name_fault forms)
-  one_normal = one_either name_fault forms (one_at status.Names (IsNameFaultAnswer f) one_fault_answer) (one_at status.Ok (IsFormsAnswer f) one_forms_answer) (λ s t x y h k. no_fault x k.1.of_file.names h.1)
+  -- where names are refused, or else scenarios, or else a report is printed, one of the causes stands
+  cause_of_synth : (s : Status) (x : List ℕ) → IsSynthAnswer options f s x → either (name_fault f) from_empty s x
+  cause_of_synth s x (inl (inl h)) = inl h
+  cause_of_synth s x (inl (inr (inl h))) = inr (inl h)
+  cause_of_synth s x (inl (inr (inr (inl h)))) = inr (inr (inl h))
+  cause_of_synth s x (inl (inr (inr (inr (inl h))))) = inr (inr (inr (inl h)))
+  cause_of_synth s x (inl (inr (inr (inr (inr (inl h)))))) = inr (inr (inr (inr (inl h))))
+  cause_of_synth s x (inl (inr (inr (inr (inr (inr h)))))) = inr (inr (inr (inr (inr (inl h)))))
+  cause_of_synth s x (inr h) = inr (inr (inr (inr (inr (inr h)))))
 
-  of_names : (x : List ℕ) → IsNameFaultAnswer f x ⊎ (IsEmptyAnswer f x ⊎ IsUnboundAnswer f x) → either name_fault from_empty status.Names x
-  of_names x (inl h) = inl (refl, h)
-  of_names x (inr (inl h)) = inr (inl (refl, h))
-  of_names x (inr (inr h)) = inr (inr (inl (refl, h)))
+  pub synth_answers_agree : IsOne (IsSynthAnswer options f)
+  synth_answers_agree s t x y h k = one_synth s t x y (cause_of_synth s x h) (cause_of_synth t y k)
 
-  of_synth : (s : Status) (x : List ℕ) → IsSynthAnswer said f s x → either name_fault from_empty s x
-  of_synth status.Ok x h = inr (inr (inr (inr (inr (inr (refl, h))))))
-  of_synth status.Names x h = of_names x h
-  of_synth status.Cyclic x h = inr (inr (inr (inl (refl, h))))
-  of_synth status.Equal x h = inr (inr (inr (inr (inl (refl, h)))))
-  of_synth status.Limit x h = inr (inr (inr (inr (inr (inl (refl, h))))))
-  of_synth other x h = absurd h
+-- no option is asked of normal forms
+pub normal_answers_agree : (f : Contents) → IsOne (IsNormalAnswer f)
+normal_answers_agree f = one_normal f
 
-  of_normal : (s : Status) (x : List ℕ) → IsNormalAnswer f s x → either name_fault forms s x
-  of_normal status.Ok x h = inr (refl, h)
-  of_normal status.Names x h = inl (refl, h)
-  of_normal other x h = absurd h
+-- ---- a file that is refused for no cause
 
--- the answers of a command to a file are one
-pub file_answers_agree : (f : Contents) (c : Command) (s t : Status) (x y : List ℕ) → IsFileAnswer c f s x → IsFileAnswer c f t y → Agree s x t y
-file_answers_agree f (command.Synth said) s t x y h k = one_synth said f s t x y (of_synth said f s x h) (of_synth said f t y k)
-file_answers_agree f command.Normal s t x y h k = one_normal None f s t x y (of_normal None f s x h) (of_normal None f t y k)
+module _ (options : SynthOptions) (f : Contents) (good : CanBeEncoded options.bits f) where
+  not_empty : (x : List ℕ) → IsEmptyAnswer f x → ⊥
+  not_empty x h = good.some h.none
+
+  not_unbound : (x : List ℕ) → IsUnboundAnswer f x → ⊥
+  not_unbound x h = none_open (length f.operations) (stated_in f) good.of_file.scenarios good.of_file.denoted h.first.place h.number h.first.scenario h.first.stands h.first.unbound
+
+  not_cyclic : (x : List ℕ) → IsCyclicAnswer f x → ⊥
+  not_cyclic x h =
+      let z = good.of_file in
+      cyclic_or_ordered z.scenarios good.orders h.number h.operation (cyclic_again f h.scenarios z.scenarios h.number h.operation h.denoted z.denoted h.first) z.of_scenarios
+
+  not_equal : (x : List ℕ) → IsEqualAnswer f x → ⊥
+  not_equal x h = good.different h.later h.earlier (subst (λ os. AreEqualAt os h.later h.earlier) (one_orders f h.orders good.orders h.of_file good.of_file) h.first.equal)
+
+  not_many : (x : List ℕ) → IsManyAnswer options.bits f x → ⊥
+  not_many x h =
+      let same : length h.orders ≡ length good.orders = ap length (one_orders f h.orders good.orders h.of_file good.of_file) in
+      let bits : h.bits ≡ good.bits = one_bits options.bits (length h.orders) h.bits good.bits h.bits_are (subst (λ n. IsBits options.bits n good.bits) (sym same) good.bits_are) in
+      let few : length good.orders ≤ 2 ^ h.bits = subst (λ n. length good.orders ≤ 2 ^ n) (sym bits) good.enough in
+      omega (arith, same, few, h.many)
+
+  -- its answer has status 0
+  pub synth_is_ok : (s : Status) (x : List ℕ) → IsSynthAnswer options f s x → s ≡ status.Ok
+  synth_is_ok s x (inl (inl h)) = absurd (no_fault f x good.of_file.named h.1)
+  synth_is_ok s x (inl (inr (inl h))) = absurd (not_empty x h.1)
+  synth_is_ok s x (inl (inr (inr (inl h)))) = absurd (not_unbound x h.1)
+  synth_is_ok s x (inl (inr (inr (inr (inl h))))) = absurd (not_cyclic x h.1)
+  synth_is_ok s x (inl (inr (inr (inr (inr (inl h)))))) = absurd (not_equal x h.1)
+  synth_is_ok s x (inl (inr (inr (inr (inr (inr h)))))) = absurd (not_many x h.1)
+  synth_is_ok s x (inr h) = h.0
+
+pub normal_is_ok : (f : Contents) → name_faults f ≡ [] → (s : Status) (x : List ℕ) → IsNormalAnswer f s x → s ≡ status.Ok
+normal_is_ok f none s x (inl h) = absurd (no_fault f x none h.1)
+normal_is_ok f none s x (inr h) = h.0

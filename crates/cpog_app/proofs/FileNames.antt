@@ -20,7 +20,7 @@ use Rattle.pg_text.proofs.NameLemmas.{all-with_text}
 use Rattle.pg_text.proofs.PhraseLaws.{parts_begin}
 use Rattle.pg_text.proofs.PlainPhrases.{HasNames}
 use Rattle.pg_text.proofs.Spelling.{spelled-names}
-use Rattle.cpog_app.specs.Denoting.{scenario_names_of}
+use Rattle.pg_normal.specs.Denoting.{scenario_names_of}
 use Rattle.cpog_app.proofs.StatedLemmas.{names_from, names_are}
 
 abbrev IsFree : List ℕ → Type 0

@@ -6,16 +6,17 @@ use Rattle.std.specs.FinMap.{nat_cmp-IsAntisymmetric}
 use Rattle.std.proofs.lemmas.Cmp.{nat_cmp_total}
 use Rattle.std.proofs.lemmas.List.{ext_get_or}
 use Rattle.std.proofs.lemmas.Option.{none-some, same_Some}
-use Rattle.cpog_base.specs.Arcs.{has_arc}
-use Rattle.cpog_base.proofs.ArcLemmas.{has_from_contains, contains_from_has}
+use Rattle.cpog_base.specs.Rows.{has_arc}
+use Rattle.cpog_base.specs.RowLaws.{has_from_contains, contains_from_has}
 use Rattle.cpog_defs.specs.Orders.{Order, is_before}
 use Rattle.cpog_defs.specs.Walks.{last}
 use Rattle.cpog_defs.specs.Scenarios.{Scenario, IsBefore, IsLeastCyclic, IsOrderOfScenario, AreOrdersOf}
 use Rattle.cpog_defs.proofs.WalkLemmas.{replaced}
 use Rattle.pg_text.specs.Contents.{Contents}
-use Rattle.cpog_app.specs.Denoting.{Stated, stated_in, IsDenoted, AreDenoted, AreScenariosOf, AreOrdersIn}
-use Rattle.cpog_app.specs.Synthesis.{IsFirstCyclic}
-use Rattle.cpog_app.proofs.OpenLemmas.{agreeing}
+use Rattle.pg_normal.specs.Denoting.{Stated, stated_in, IsDenoted, AreDenoted, AreScenariosOf}
+use Rattle.cpog_app.specs.Ordered.{AreOrdersIn}
+use Rattle.scenario_check.specs.Cycles.{IsFirstCyclic}
+use Rattle.pg_normal.proofs.OpenLemmas.{agreeing}
 
 -- ---- scenarios that have the same operations and arcs
 

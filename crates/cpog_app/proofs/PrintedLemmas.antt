@@ -1,6 +1,5 @@
 -- The controller that stands in a printed report.
 use Rattle.std.proofs.Common.{◌≡◌, ◌↔◌, ℕ, IsTrue, List, length, sym, ap, subst, ◌∙◌, arith}
-use Rattle.std.specs.Prelude.{Option}
 use Rattle.std.specs.List.{All}
 use Rattle.cpog_defs.specs.Orders.{IsOrderOf}
 use Rattle.cpog_defs.specs.Encodings.{IsEncoding}
@@ -14,14 +13,15 @@ use Rattle.report_text.specs.Report.{ReportValue, module_of}
 use Rattle.report_text.specs.Rows.{report_lines}
 use Rattle.report_text.specs.Laws.{EndsWithModule}
 use Rattle.report_text.proofs.ModuleLemmas.{module_lawful, module_ends}
-use Rattle.cpog_app.specs.Synthesis.{IsSynthesis}
+use Rattle.cpog_app.specs.declared.words.SynthOptions.{SynthOptions}
+use Rattle.cpog_app.specs.Synthesis.{IsSound, IsSynthesis}
 use Rattle.cpog_app.specs.Printed.{ShowsEachRun}
 use Rattle.cpog_app.specs.Answers.{IsReportAnswer}
 use Rattle.cpog_app.proofs.ReportLemmas.{orders_are}
 
 -- the report's netlist shows each run
-shows_each_run : (said : Option ℕ) (f : Contents) (r : ReportValue) (is : IsSynthesis said f r) → ShowsEachRun is.orders r.encoding.codes (module_of r)
-shows_each_run said f r is events m i at run inputs settled =
+shows_each_run : (f : Contents) (r : ReportValue) (is : IsSound f r) → ShowsEachRun is.orders r.encoding.codes (module_of r)
+shows_each_run f r is events m i at run inputs settled =
     let count : length r.encoding.graph.ops ≡ length r.names = is.report.encoding.graph.ops in
     let names : length r.names ≡ length f.operations = ap length is.names in
     let orders : All (IsOrderOf (length r.encoding.graph.ops)) is.orders = subst (λ n. All (IsOrderOf n) is.orders) (sym (count ∙ names)) (orders_are f is.orders is.of_file) in
@@ -36,16 +36,16 @@ shows_each_run said f r is events m i at run inputs settled =
     }
 
 -- the text of a file's report is what may be printed for it
-pub report_answers : (said : Option ℕ) (f : Contents) (r : ReportValue) (output : List ℕ) → IsSynthesis said f r → output ≡ text_of (report_lines r) → IsReportAnswer said f output
-report_answers said f r output is e = record {
+pub report_answers : (options : SynthOptions) (f : Contents) (r : ReportValue) (output : List ℕ) → IsSynthesis options f r → output ≡ text_of (report_lines r) → IsReportAnswer options f output
+report_answers options f r output is e = record {
   report = r;
   synthesis = is;
   output_is = e;
   controller = record {
     design = module_of r;
-    is_module = module_lawful r is.report;
-    stands = subst (λ text. EndsWithModule text (module_of r)) (sym e) (module_ends r is.report);
-    names_are = is.names;
-    shows = shows_each_run said f r is;
+    is_module = module_lawful r is.sound.report;
+    stands = subst (λ text. EndsWithModule text (module_of r)) (sym e) (module_ends r is.sound.report);
+    names_are = is.sound.names;
+    shows = shows_each_run f r is.sound;
   };
 }

@@ -1,17 +1,16 @@
 -- The report of a file is lawful, and is its synthesis.
-use Rattle.std.proofs.Common.{◌≡◌, ◌≢◌, ℕ, zero, suc, ◌+◌, ◌-◌, ◌<◌, ◌≤◌, Bool, true, false, IsTrue, List, [], ◌∷◌, ◌++◌, length, map, take, IsSomeAnd, slice_index_or, slice_get, Some, if◌then◌else◌, refl, sym, ap, ◌∙◌, subst, arith, inl, inr, length-append}
-use Rattle.std.specs.Prelude.{Option, ◌^◌}
+use Rattle.std.proofs.Common.{◌≡◌, ◌≢◌, ℕ, zero, suc, ◌+◌, ◌-◌, ◌<◌, ◌≤◌, Bool, true, false, IsTrue, List, [], ◌∷◌, ◌++◌, length, map, IsSomeAnd, slice_index_or, slice_get, if◌then◌else◌, refl, sym, ap, ◌∙◌, subst, arith, inl, inr, length-append}
+use Rattle.std.specs.Prelude.{◌^◌}
 use Rattle.std.specs.List.{All, AllPairs}
 use Rattle.std.proofs.lemmas.Bool.{cases_lt, both_ways, or_cases, and_parts}
-use Rattle.std.proofs.lemmas.Option.{none-some, slice_get-get_or}
 use Rattle.std.proofs.lemmas.List.{get_or_append_left, get_or-append_right, length-map}
 use Rattle.cpog_defs.specs.declared.types.OpId.{OpId}
 use Rattle.cpog_defs.specs.Orders.{Order, is_before, is_covered, IsOrderOf, each_below, arc_of}
-use Rattle.cpog_defs.specs.Walks.{last, more}
-use Rattle.cpog_defs.specs.Scenarios.{Scenario, IsScenario, HasArc, IsBefore, IsOrderOfScenario, IsLeastCyclic, AreOrdersOf}
-use Rattle.cpog_base.specs.Arcs.{has_arc}
-use Rattle.cpog_base.proofs.ArcLemmas.{has_from_contains}
-use Rattle.cpog_merge.specs.Table.{count_of}
+use Rattle.cpog_defs.specs.Scenarios.{Scenario, HasArc, AreOrdersOf}
+use Rattle.cpog_base.specs.Names.{AreDistinct}
+use Rattle.cpog_base.specs.Rows.{has_arc}
+use Rattle.cpog_base.specs.RowLaws.{has_from_contains}
+use Rattle.cpog_merge.specs.Columns.{count_of}
 use Rattle.cpog_merge.proofs.ScenarioLemmas.{fits_is_fitting_scenarios_lem}
 use Rattle.cpog_defs.specs.Codes.{open_patterns}
 use Rattle.cpog_defs.specs.Encodings.{Encoding, IsEncoding, Encodes}
@@ -21,14 +20,18 @@ use Rattle.pg_text.specs.Text.{IsFile}
 use Rattle.report_text.specs.declared.bound.Bound.{Bound}
 use Rattle.report_text.specs.Report.{ReportValue, IsArcBefore, IsBound, IsReport, IsReported}
 use Rattle.opcode_assign.specs.Assignments.{IsFirstAssignment}
+use Rattle.cpog_base.specs.declared.limits.TheConstants.{BUDGET_LIMIT}
+use Rattle.pg_normal.specs.Denoting.{Stated, stated_in, scenario_names_of, IsDenoted, AreDenoted}
+use Rattle.cpog_app.specs.Ordered.{AreOrdersIn}
+use Rattle.scenario_check.specs.Equals.{AreDifferent}
+use Rattle.cpog_app.specs.declared.words.SynthOptions.{SynthOptions}
 use Rattle.cpog_app.specs.Bits.{IsBits}
-use Rattle.cpog_app.specs.Denoting.{Stated, stated_in, scenario_names_of, IsDenoted, AreDenoted, AreOrdersIn}
-use Rattle.cpog_app.specs.Synthesis.{IsFirstCyclic, AreDifferent, IsBoundOf, IsSynthesis}
-use Rattle.cpog_app.specs.Scenarios.{arcs_from, arcs_where, covering_scenario}
-use Rattle.cpog_app.proofs.ArcLemmas.{from_u, begin_below, has_one, has_append}
+use Rattle.cpog_app.specs.Synthesis.{free_patterns, IsBoundOf, IsSound, IsSynthesis}
+use Rattle.order_reduce.specs.Scenarios.{covering_scenario}
+use Rattle.cpog_app.proofs.ArcLemmas.{arcs_from, arcs_where, from_u, begin_below, has_one, has_append}
 use Rattle.cpog_app.proofs.DenotingLemmas.{length-denoted}
 use Rattle.cpog_app.proofs.FileNames.{operations_are_names, scenarios_have_names, operations_are_distinct}
-use Rattle.cpog_app.proofs.OpenLemmas.{agreeing}
+use Rattle.pg_normal.proofs.OpenLemmas.{agreeing}
 
 -- ---- arcs that are gathered by their ends ascend
 
@@ -120,19 +123,6 @@ reported n o is =
 
 -- ---- orders of scenarios
 
-pub orders_push : (xs : List Scenario) (os : List Order) (x : Scenario) (o : Order) → AreOrdersOf xs os → IsOrderOfScenario x o → AreOrdersOf (xs ++ x ∷ []) (os ++ o ∷ [])
-orders_push [] [] x o z is = (is, tt)
-orders_push [] (p ∷ os) x o z is = absurd z
-orders_push (y ∷ xs) [] x o z is = absurd z
-orders_push (y ∷ xs) (p ∷ os) x o z is = (z.0, orders_push xs os x o z.1 is)
-
--- where all have orders, none has an operation before itself
-pub none_cyclic : (xs : List Scenario) (os : List Order) → AreOrdersOf xs os → (t w : ℕ) (sc : Scenario) → slice_get xs t ≡ Some sc → IsBefore sc w w → ⊥
-none_cyclic [] os z t w sc at h = none-some sc at
-none_cyclic (x ∷ xs) [] z t w sc at h = z
-none_cyclic (x ∷ xs) (o ∷ os) z zero w sc at h = let same : x ≡ sc = cc in z.0.order.strict.irreflexive w ((z.0.before w w).1 (subst (λ y. IsBefore y w w) (sym same) h))
-none_cyclic (x ∷ xs) (o ∷ os) z (suc t) w sc at h = none_cyclic xs os z.1 t w sc at h
-
 pub length-orders : (xs : List Scenario) (os : List Order) → AreOrdersOf xs os → length os ≡ length xs
 length-orders [] [] z = refl
 length-orders [] (o ∷ os) z = absurd z
@@ -185,9 +175,10 @@ module _ (f : Contents) (orders : List Order) (z : AreOrdersIn f orders) (some :
   -- the report of a file over so many bits is lawful
   module _ (file : IsFile f) (few : length orders ≤ 64) (bits : ℕ) (some_bit : 1 ≤ bits) (few_bits : bits ≤ 8)
       (e : Encoding) (encodes : Encodes (count_of orders) orders (open_patterns (length orders)) bits e) (few_gates : length e.gates.gates ≤ 64320)
-      (b : Bound) (bound : IsBound (length e.gates.gates) b) (n : Netlist) (netlist : IsNetlistOf e n) where
+      (b : Bound) (bound : IsBound (length e.gates.gates) b) (n : Netlist) (netlist : IsNetlistOf e n)
+      (budget : ℕ) (some_budget : 1 ≤ budget) (few_budget : budget ≤ BUDGET_LIMIT) (distinct : AreDistinct (scenario_names_of f)) where
     abbrev report : ReportValue
-    report = record { bits = bits; budget = 2000000; names = f.operations; scenario_names = scenario_names_of f; scenarios = map covering_scenario orders; encoding = e; bound = b; netlist = n }
+    report = record { bits = bits; budget = budget; names = f.operations; scenario_names = scenario_names_of f; scenarios = map covering_scenario orders; encoding = e; bound = b; netlist = n }
 
     pub report_is_lawful : IsReport report
     report_is_lawful =
@@ -195,8 +186,8 @@ module _ (f : Contents) (orders : List Order) (z : AreOrdersIn f orders) (some :
         record {
           some_bit = some_bit;
           few_bits = few_bits;
-          some_budget = omega arith;
-          few_budget = omega arith;
+          some_budget = some_budget;
+          few_budget = few_budget;
           few_names = file.1.few_operations;
           names = operations_are_names f file;
           distinct = operations_are_distinct f file;
@@ -204,6 +195,7 @@ module _ (f : Contents) (orders : List Order) (z : AreOrdersIn f orders) (some :
           few_scenarios = omega (arith, covering, few);
           one_name_each = names_each f orders z ∙ sym covering;
           scenario_names = scenarios_have_names f file;
+          distinct_scenarios = distinct;
           scenarios = all_map (IsOrderOf (length f.operations)) (IsReported (length f.operations)) covering_scenario (reported (length f.operations)) orders (orders_are f orders z);
           inputs = encodes.bits_are;
           one_code_each = encodes.codes.one_each ∙ sym covering;
@@ -213,52 +205,32 @@ module _ (f : Contents) (orders : List Order) (z : AreOrdersIn f orders) (some :
           netlist = netlist;
         }
 
-    -- and is its synthesis, where the encoding is the first
-    pub report_is_synthesis : (said : Option ℕ) → IsBits said (length orders) bits → length orders ≤ 2 ^ bits → AreDifferent orders → IsFirstAssignment (count_of orders) orders bits e → IsBoundOf (length f.operations) orders e b → IsSynthesis said f report
-    report_is_synthesis said bits_are enough different first known = record {
+    -- and sound, where the encoding is the first
+    pub report_is_sound : length orders ≤ 2 ^ bits → AreDifferent orders → IsFirstAssignment (count_of orders) orders (free_patterns (length orders) bits) bits e → IsBoundOf (length f.operations) orders e b → IsSound f report
+    report_is_sound enough different first known = record {
       report = report_is_lawful;
-      budget = refl;
       names = refl;
       scenario_names = refl;
       orders = orders;
       of_file = z;
       different = different;
-      bits = bits_are;
       enough_bits = enough;
       scenarios = refl;
       codes = encodes.codes;
       fits = (fits_is_fitting_scenarios_lem e z.scenarios orders z.of_scenarios).0 encodes.fits;
       encodes = subst (λ m. Encodes m orders (open_patterns (length orders)) bits e) same_count encodes;
-      conditions = subst (λ m. IsFirstAssignment m orders bits e) same_count first;
+      conditions = subst (λ m. IsFirstAssignment m orders (free_patterns (length orders) bits) bits e) same_count first;
       few_gates = few_gates;
       bound = known;
     }
 
-slice_get_at : (xs : List Scenario) (k : ℕ) (x : Scenario) → k < length xs → x ≡ slice_index_or xs k x → slice_get xs k ≡ Some x
-slice_get_at xs k x l is = slice_get-get_or xs k x l ∙ ap Some (sym is)
+    -- and the file's synthesis, where bits and budget are as they are said
+    pub report_is_synthesis : (options : SynthOptions) → length orders ≤ 2 ^ bits → AreDifferent orders → IsFirstAssignment (count_of orders) orders (free_patterns (length orders) bits) bits e → IsBoundOf (length f.operations) orders e b →
+        IsBits options.bits (length orders) bits → budget ≡ options.budget → IsSynthesis options f report
+    unfolding report_is_sound
+    report_is_synthesis options enough different first known said same = record { sound = report_is_sound enough different first known; bits = said; budget = same }
 
--- where those before it have orders, a scenario with an operation before itself is the first
-pub first_cyclic : (xs : List Scenario) (os : List Order) (s v : ℕ) (x : Scenario) → s < length xs → x ≡ slice_index_or xs s x → AreOrdersOf (take s xs) os → IsLeastCyclic x v → IsFirstCyclic xs s v
-first_cyclic xs os s v x l is z least = record {
-  here = subst (λ o. IsSomeAnd o (λ sc. IsLeastCyclic sc v)) (sym (slice_get_at xs s x l is)) least;
-  earlier = λ t w sc before at h. none_cyclic (take s xs) os z t w sc (get_before xs s t sc before at) h;
-}
-  where
-    get_before : (ys : List Scenario) (n k : ℕ) (y : Scenario) → k < n → slice_get ys k ≡ Some y → slice_get (take n ys) k ≡ Some y
-    get_before [] n k y l e = absurd (none-some y e)
-    get_before (z ∷ ys) zero k y l e = absurd (omega arith)
-    get_before (z ∷ ys) (suc n) zero y l e = e
-    get_before (z ∷ ys) (suc n) (suc k) y l e = get_before ys n k y (omega arith) e
-
--- it is below the count of its scenario
-cyclic_below : (sc : Scenario) (v : ℕ) → IsScenario sc → IsBefore sc v v → v < sc.count
-cyclic_below sc v is (last e) = is.below v (is.first_kept v v e)
-cyclic_below sc v is (more {v = z} e w) = is.below v (is.first_kept v z e)
-
-pub told_below : (xs : List Scenario) (s v : ℕ) (x : Scenario) → s < length xs → x ≡ slice_index_or xs s x → IsScenario x → IsLeastCyclic x v → IsSomeAnd (slice_get xs s) (λ sc. v < sc.count)
-told_below xs s v x l is scenario least = subst (λ o. IsSomeAnd o (λ sc. v < sc.count)) (sym (slice_get_at xs s x l is)) (cyclic_below x v scenario least.is_cyclic)
-
--- and so below the number of operations
+-- an operation of a denoted scenario is below the number of operations
 pub operation_below : (count : ℕ) (xs : List Stated) (scs : List Scenario) (s v : ℕ) → AreDenoted count xs scs → IsSomeAnd (slice_get scs s) (λ sc. v < sc.count) → v < count
 operation_below count [] [] s v h l = absurd l
 operation_below count [] (c ∷ scs) s v h l = absurd h

@@ -1,76 +1,69 @@
 -- What a run may print, by its status.
-use Rattle.std.specs.Prelude.{◌≡◌, ◌⊎◌, List, ℕ, ◌≤◌, length, Option, Some, None}
+use Rattle.std.specs.Prelude.{◌≡◌, ◌⊎◌, List, ℕ, ◌≤◌, length, Bool, IsTrue, Option, Some, None}
 use Rattle.std.specs.Io.KnownBytes.{Appends, Keeps}
-use Rattle.cpog_base.specs.declared.limits.Counted.{Counted}
+use Rattle.cpog_base.specs.declared.limits.TheConstants.{INPUT_LIMIT}
 use Rattle.cpog_base.specs.declared.limits.Counted.TheVariants as counted
 use Rattle.cpog_base.specs.declared.status.Status.{Status}
 use Rattle.cpog_base.specs.declared.status.Status.TheVariants as status
 use Rattle.cpog_outside.specs.Causes.{Rose}
 use Rattle.cpog_outside.specs.Told.{IsAllOf, IsLonger, TakesFront}
 use Rattle.pg_text.specs.Contents.{Contents}
-use Rattle.pg_text.specs.Lines.{graph_lines, IsFirstBad}
-use Rattle.pg_text.specs.Text.{IsFileOf, IsGoodLine, IsPassed}
+use Rattle.pg_text.specs.Text.{IsFileOf}
 use Rattle.cpog_app.specs.declared.refusal.Refusal.TheVariants as refusal
 use Rattle.cpog_app.specs.declared.words.Command.{Command}
+use Rattle.cpog_app.specs.declared.words.Command.TheVariants as command
 use Rattle.cpog_app.specs.Words.{command_of}
-use Rattle.cpog_app.specs.Refusal.{refusal_text}
-use Rattle.cpog_app.specs.Answers.{IsFileAnswer}
+use Rattle.cpog_app.specs.Refusal.{refusal_text, At}
+use Rattle.cpog_app.specs.Refusals.{IsTextRefusal}
+use Rattle.cpog_app.specs.Answers.{IsSynthAnswer, IsNormalAnswer}
 
--- ---- what is printed for a text
+-- ---- what is printed for a graph text
 
--- the first line that is outside the grammar
-pub record IsBadLineAnswer (bytes : List ℕ) (output : List ℕ) : Type 0 where
-  pub line : ℕ
-  pub first : IsFirstBad IsGoodLine (graph_lines bytes) line
-  pub output_is : output ≡ refusal_text (refusal.Text line)
-
--- the first count that passes its limit
-pub record IsPassedAnswer (bytes : List ℕ) (output : List ℕ) : Type 0 where
-  pub what : Counted
-  pub limit : ℕ
-  pub passed : IsPassed bytes what limit
-  pub output_is : output ≡ refusal_text (refusal.Limit what limit)
-
--- the command's answer to the file that the text spells
-pub record IsAnswerOfFile (command : Command) (bytes : List ℕ) (s : Status) (output : List ℕ) : Type 0 where
+-- the answer to the file that the text spells
+pub record IsAnswerOfFile (OfFile : Contents → Status → List ℕ → Type 0) (bytes : List ℕ) (s : Status) (output : List ℕ) : Type 0 where
   pub file : Contents
   pub is_file : IsFileOf bytes file
-  pub answer : IsFileAnswer command file s output
+  pub answer : OfFile file s output
 
-abbrev pub IsTextAnswer : Command → List ℕ → Status → List ℕ → Type 0
-IsTextAnswer command bytes status.Text output = IsBadLineAnswer bytes output
-IsTextAnswer command bytes status.Limit output = IsPassedAnswer bytes output ⊎ IsAnswerOfFile command bytes status.Limit output
-IsTextAnswer command bytes status.Ok output = IsAnswerOfFile command bytes status.Ok output
-IsTextAnswer command bytes status.Names output = IsAnswerOfFile command bytes status.Names output
-IsTextAnswer command bytes status.Cyclic output = IsAnswerOfFile command bytes status.Cyclic output
-IsTextAnswer command bytes status.Equal output = IsAnswerOfFile command bytes status.Equal output
-IsTextAnswer command bytes other output = ⊥
+-- the answers to a graph text, out of those to its file
+abbrev pub IsGraphTextAnswer : (Contents → Status → List ℕ → Type 0) → List ℕ → Status → List ℕ → Type 0
+IsGraphTextAnswer OfFile bytes s output = IsTextRefusal bytes s output ⊎ IsAnswerOfFile OfFile bytes s output
 
 -- ---- what is printed for words and a source
 
--- the source before and after, as far as it tells its bytes, and its count of faults
+-- the source before and after, as far as it tells its bytes, its count of faults, and whether it was steady
 pub record Input : Type 0 where
   pub left : Option (List ℕ)
   pub left_after : Option (List ℕ)
   pub faults : ℕ
   pub faults_after : ℕ
+  pub steady : Bool
 
 -- all was read, within the limit, and this is the answer to it
-pub record IsAnswerToAll (command : Command) (input : Input) (s : Status) (output : List ℕ) : Type 0 where
+pub record IsAnswerToAll (limit : ℕ) (OfBytes : List ℕ → Status → List ℕ → Type 0) (input : Input) (s : Status) (output : List ℕ) : Type 0 where
   pub bytes : List ℕ
   pub all : IsAllOf input.left input.left_after bytes
-  pub within : length bytes ≤ 1048576
-  pub answer : IsTextAnswer command bytes s output
+  pub within : length bytes ≤ limit
+  pub answer : OfBytes bytes s output
 
 -- more was there than the limit
-pub record IsLongAnswer (input : Input) (output : List ℕ) : Type 0 where
-  pub longer : IsLonger 1048576 input.left
-  pub output_is : output ≡ refusal_text (refusal.Limit counted.Input 1048576)
+pub record IsLongAnswer (limit : ℕ) (input : Input) (output : List ℕ) : Type 0 where
+  pub longer : IsLonger limit input.left
+  pub output_is : output ≡ refusal_text (refusal.Limit counted.Input limit)
 
--- the source failed
+-- the source, which wasn't steady, failed
 pub record IsFaultAnswer (input : Input) (output : List ℕ) : Type 0 where
   pub rose : Rose input.faults input.faults_after
+  pub unsteady : ¬ IsTrue input.steady
   pub output_is : output ≡ refusal_text refusal.ReadFault
+
+-- the refusals of a source of which at most so many bytes are read
+abbrev pub IsReadRefusal : ℕ → Input → Status → List ℕ → Type 0
+IsReadRefusal limit input s output = At status.ReadFault (IsFaultAnswer input) s output ⊎ At status.Limit (IsLongAnswer limit input) s output
+
+-- the answers to a source of which at most so many bytes are read, out of those to its bytes
+abbrev pub IsReadingAnswer : ℕ → (List ℕ → Status → List ℕ → Type 0) → Input → Status → List ℕ → Type 0
+IsReadingAnswer limit OfBytes input s output = IsReadRefusal limit input s output ⊎ IsAnswerToAll limit OfBytes input s output
 
 -- the words name no command, and nothing was read
 pub record IsUsageAnswer (input : Input) (output : List ℕ) : Type 0 where
@@ -78,25 +71,18 @@ pub record IsUsageAnswer (input : Input) (output : List ℕ) : Type 0 where
   pub quiet : input.faults_after ≡ input.faults
   pub output_is : output ≡ refusal_text refusal.Usage
 
--- the answers to a command that reads a graph text
-abbrev pub IsReadingAnswer : Command → Input → Status → List ℕ → Type 0
-IsReadingAnswer command input status.ReadFault output = IsFaultAnswer input output
-IsReadingAnswer command input status.Limit output = IsLongAnswer input output ⊎ IsAnswerToAll command input status.Limit output
-IsReadingAnswer command input status.Ok output = IsAnswerToAll command input status.Ok output
-IsReadingAnswer command input status.Text output = IsAnswerToAll command input status.Text output
-IsReadingAnswer command input status.Names output = IsAnswerToAll command input status.Names output
-IsReadingAnswer command input status.Cyclic output = IsAnswerToAll command input status.Cyclic output
-IsReadingAnswer command input status.Equal output = IsAnswerToAll command input status.Equal output
-IsReadingAnswer command input other output = ⊥
+-- the answers of each command: how much it reads, as what, and what it prints for that
+abbrev pub IsCommandAnswer : Command → Input → Status → List ℕ → Type 0
+IsCommandAnswer (command.Synth options) = IsReadingAnswer INPUT_LIMIT (IsGraphTextAnswer (IsSynthAnswer options))
+IsCommandAnswer command.Normal = IsReadingAnswer INPUT_LIMIT (IsGraphTextAnswer IsNormalAnswer)
 
-abbrev pub IsCommandAnswer : Option Command → Input → Status → List ℕ → Type 0
-IsCommandAnswer None input status.Usage output = IsUsageAnswer input output
-IsCommandAnswer None input other output = ⊥
-IsCommandAnswer (Some command) input s output = IsReadingAnswer command input s output
+abbrev pub IsWordsAnswer : Option Command → Input → Status → List ℕ → Type 0
+IsWordsAnswer None input = At status.Usage (IsUsageAnswer input)
+IsWordsAnswer (Some command) input = IsCommandAnswer command input
 
 -- what the words and the input allow, by the status
 abbrev pub IsAllowed : List (List ℕ) → Input → Status → List ℕ → Type 0
-IsAllowed words input s output = IsCommandAnswer (command_of words) input s output
+IsAllowed words input s output = IsWordsAnswer (command_of words) input s output
 
 -- ---- how a run ends
 

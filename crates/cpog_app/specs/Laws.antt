@@ -2,8 +2,6 @@
 use Rattle.std.specs.Prelude.{◌≡◌, ◌≢◌, ℕ, List, Some}
 use Rattle.cpog_base.specs.declared.status.Status.{Status}
 use Rattle.cpog_base.specs.declared.status.Status.TheVariants as status
-use Rattle.cpog_defs.specs.Scenarios.{Scenario}
-use Rattle.cpog_app.specs.Synthesis.{IsFirstCyclic}
 use Rattle.cpog_app.specs.Allowed.{Input, IsAllowed}
 
 -- two answers to the same words and told bytes that are no read fault have one status and one output
@@ -11,7 +9,3 @@ abbrev pub AllowedAgree : Type 0
 AllowedAgree = (words : List (List ℕ)) (told : List ℕ) (a b : Input) (s t : Status) (x y : List ℕ) →
     a.left ≡ Some told → b.left ≡ Some told → IsAllowed words a s x → IsAllowed words b t y →
     s ≢ status.ReadFault → t ≢ status.ReadFault → (s ≡ t) × (x ≡ y)
-
--- one scenario is the first that has an operation before itself, and one operation is its least
-abbrev pub FirstLeast : Type 0
-FirstLeast = (scenarios : List Scenario) (s t v w : ℕ) → IsFirstCyclic scenarios s v → IsFirstCyclic scenarios t w → (s ≡ t) × (v ≡ w)

@@ -1,11 +1,13 @@
 pub mod Words
 pub mod Bits
 pub mod Refusal
-pub mod Denoting
-pub mod Scenarios
+pub mod Ordered
 pub mod Synthesis
-pub mod Faults
 pub mod Printed
+pub mod Refusals
+pub mod Encodable
+pub mod Stops
 pub mod Answers
 pub mod Allowed
 pub mod Laws
+pub mod Complete

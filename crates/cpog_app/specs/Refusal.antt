@@ -3,6 +3,7 @@ use Rattle.std.specs.Prelude.{◌≡◌, List, ℕ, ◌++◌, codes}
 use Rattle.std.specs.Fmt.{decimal}
 use Rattle.cpog_base.specs.declared.limits.Counted.{Counted}
 use Rattle.cpog_base.specs.declared.limits.Counted.TheVariants as counted
+use Rattle.cpog_base.specs.declared.status.Status.{Status}
 use Rattle.pg_normal.specs.declared.naming.NameFault.{NameFault}
 use Rattle.pg_normal.specs.declared.naming.NameFault.TheVariants as fault
 use Rattle.cpog_app.specs.declared.refusal.Refusal.{Refusal}
@@ -43,3 +44,11 @@ IsNamesLine (fault.Duplicate line name) output = output ≡ refusal_text (refusa
 IsNamesLine (fault.UnknownGraph line name) output = output ≡ refusal_text (refusal.UnknownGraph line name)
 IsNamesLine (fault.UnknownParam line name) output = output ≡ refusal_text (refusal.UnknownParam line name)
 IsNamesLine fault.Memory output = ⊥
+
+-- this output, at this status alone
+abbrev pub At : Status → (List ℕ → Type 0) → Status → List ℕ → Type 0
+At status Output s output = (s ≡ status) × Output output
+
+-- the line of a refusal, at this status
+abbrev pub Tells : Status → Refusal → Status → List ℕ → Type 0
+Tells status refusal = At status (λ output. output ≡ refusal_text refusal)

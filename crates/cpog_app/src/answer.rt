@@ -1,110 +1,103 @@
-//! The whole answer to words and an input, before anything is written.
-ghost use Rattle.std.specs.Prelude.{◌≤◌, IfOk, map, length};
+//! The whole answer to words and an input, before anything is written. Each step gives what the next one needs, or stops.
+ghost use Rattle.std.specs.Prelude.{◌≡◌, ◌≤◌, IfOk, IfErr, IsTrue, map, length};
 ghost use Rattle.std.specs.String.{string_bytes};
-ghost use Rattle.cpog_outside.specs.Told.{LosesFront};
-ghost use Rattle.pg_normal.specs.Normals.{AreNormalsOf};
+ghost use Rattle.cpog_outside.specs.Told.{IsAllOf, LosesFront};
 ghost use Rattle.cpog_app.specs.Bits.{MayBeNamed};
-ghost use Rattle.cpog_app.specs.Answers.{IsNormalAnswer, IsFileAnswer};
-ghost use Rattle.cpog_app.specs.Allowed.{IsTextAnswer, IsReadingAnswer, IsAllowed};
+ghost use Rattle.cpog_app.specs.Allowed.{IsReadRefusal, IsCommandAnswer, IsAllowed};
+ghost use Rattle.cpog_app.specs.Stops.{IsStop};
 
+use crate::normal::answer_normal;
 use crate::refusal::Refusal;
-use crate::refusing::{refuse, refuse_names};
+use crate::stop::{Answer, Stop, refuse};
 use crate::synth::answer_synth;
 use crate::words::{Command, read_words};
 use cpog_base::{Counted, INPUT_LIMIT, Memory, Status};
 use cpog_outside::{ReadAllFault, Source, read_all};
-use pg_normal::{NormalList, normals, write_normal};
-use pg_text::{File, FileFault, read_file};
 use std::alloc::Global;
 
-/// How the program ends, and what it prints.
-#[derive(Drop)]
-pub(crate) struct Answer {
-    pub status: Status,
-    pub output: Vec<u8>,
-}
-
-/// What `normal` prints for a file, whose normal forms these are.
-fn answer_normal(alloc: Global, file: &File, normals: &NormalList) -> Result<Answer, Memory>
-    requires { AreNormalsOf file.now normals.now.normals }
-    ensures { IfOk result (λ a. IsNormalAnswer file.now a.status a.output.items) }
-{
-    let output = write_normal(alloc, file, normals)?;
-    Ok(Answer {
-        status: Status::Ok,
-        output,
-    })
-}
-
-/// What is printed for a file.
-fn answer_file(alloc: Global, command: Command, file: File) -> Result<Answer, Memory>
-    requires { MayBeNamed command }
-    ensures { IfOk result (λ a. IsFileAnswer command file a.status a.output.items) }
-{
-    match normals(alloc, &file) {
-        Ok(normals) => match command {
-            Command::Synth { bits } => answer_synth(alloc, bits, file, &normals),
-            Command::Normal => answer_normal(alloc, &file, &normals),
-        },
-        Err(fault) => refuse_names(alloc, fault),
-    }
-}
-
-/// What is printed for a graph text.
-fn answer_text(alloc: Global, command: Command, bytes: &[u8]) -> Result<Answer, Memory>
-    requires command { MayBeNamed command }
-    requires few { length bytes.now ≤ 1048576 }
-    ensures { IfOk result (λ a. IsTextAnswer command bytes.now a.status a.output.items) }
-{
-    match read_file(alloc, bytes) {
-        Ok(file) => answer_file(alloc, command, file),
-        Err(FileFault::BadLine(line)) => refuse(alloc, Status::Text, &Refusal::Text(line)),
-        Err(FileFault::Limit(what, number)) => {
-            refuse(alloc, Status::Limit, &Refusal::Limit { what, number })
-        }
-        Err(FileFault::Memory) => Err(Memory),
-    }
-}
-
-/// What is printed for all that the source has left.
-fn answer_source<S: Source>(
-    alloc: Global,
-    command: Command,
-    source: &mut S,
-) -> Result<Answer, Memory>
-    requires { MayBeNamed command }
-    ensures allowed { IfOk result (λ a. IsReadingAnswer command
-        (record { left = S.left source.old; left_after = S.left source.new; faults = S.faults source.old; faults_after = S.faults source.new })
-        a.status a.output.items) }
+/// All that the source has left, where it is within the limit.
+fn read_input<S: Source>(alloc: Global, source: &mut S, limit: u32) -> Result<Vec<u8>, Stop>
+    ensures all { IfOk result (λ v. IsAllOf (S.left source.old) (S.left source.new) v.items) }
+    ensures within { IfOk result (λ v. length v.items ≤ limit) }
+    ensures err { IfErr result (IsStop (IsReadRefusal limit
+        (record { left = S.left source.old; left_after = S.left source.new; faults = S.faults source.old; faults_after = S.faults source.new; steady = S.steady source.old }))) }
     ensures left { LosesFront (S.left source.old) (S.left source.new) }
+    ensures quiet { IsTrue (S.steady source.old) → S.faults source.new ≡ S.faults source.old }
 {
-    match read_all(alloc, source, INPUT_LIMIT) {
-        Ok(bytes) => answer_text(alloc, command, bytes.as_slice()),
-        Err(ReadAllFault::ReadFault) => refuse(alloc, Status::ReadFault, &Refusal::ReadFault),
+    match read_all(alloc, source, limit) {
+        Ok(bytes) => Ok(bytes),
+        Err(ReadAllFault::ReadFault) => {
+            Err(refuse(alloc, Status::ReadFault, &Refusal::ReadFault))
+        }
         Err(ReadAllFault::TooLong) => {
             let refusal = Refusal::Limit {
                 what: Counted::Input,
-                number: INPUT_LIMIT,
+                number: limit,
             };
-            refuse(alloc, Status::Limit, &refusal)
+            Err(refuse(alloc, Status::Limit, &refusal))
         }
-        Err(ReadAllFault::Memory) => Err(Memory),
+        Err(ReadAllFault::Memory) => Err(Stop::Memory),
     }
 }
 
-/// What is printed for the words and the source.
+/// The answer of a command to what the source has left.
+fn answer_command<S: Source>(
+    alloc: Global,
+    command: Command,
+    source: &mut S,
+) -> Result<Answer, Stop>
+    requires { MayBeNamed command }
+    ensures ok { IfOk result (λ a. IsCommandAnswer command
+        (record { left = S.left source.old; left_after = S.left source.new; faults = S.faults source.old; faults_after = S.faults source.new; steady = S.steady source.old })
+        a.status a.output.items) }
+    ensures err { IfErr result (IsStop (IsCommandAnswer command
+        (record { left = S.left source.old; left_after = S.left source.new; faults = S.faults source.old; faults_after = S.faults source.new; steady = S.steady source.old }))) }
+    ensures left { LosesFront (S.left source.old) (S.left source.new) }
+    ensures quiet { IsTrue (S.steady source.old) → S.faults source.new ≡ S.faults source.old }
+{
+    match command {
+        Command::Synth { options } => {
+            let bytes = read_input(alloc, source, INPUT_LIMIT)?;
+            answer_synth(alloc, options, &bytes)
+        }
+        Command::Normal => {
+            let bytes = read_input(alloc, source, INPUT_LIMIT)?;
+            answer_normal(alloc, &bytes)
+        }
+    }
+}
+
+/// The answer to the words and the source.
+fn answer_words<S: Source>(alloc: Global, words: &[String], source: &mut S) -> Result<Answer, Stop>
+    ensures ok { IfOk result (λ a. IsAllowed (map string_bytes words.now)
+        (record { left = S.left source.old; left_after = S.left source.new; faults = S.faults source.old; faults_after = S.faults source.new; steady = S.steady source.old })
+        a.status a.output.items) }
+    ensures err { IfErr result (IsStop (IsAllowed (map string_bytes words.now)
+        (record { left = S.left source.old; left_after = S.left source.new; faults = S.faults source.old; faults_after = S.faults source.new; steady = S.steady source.old }))) }
+    ensures left { LosesFront (S.left source.old) (S.left source.new) }
+    ensures quiet { IsTrue (S.steady source.old) → S.faults source.new ≡ S.faults source.old }
+{
+    match read_words(words) {
+        Some(command) => answer_command(alloc, command, source),
+        None => Err(refuse(alloc, Status::Usage, &Refusal::Usage)),
+    }
+}
+
+/// What is printed for the words and the source, a refusal or not.
 pub(crate) fn make_answer<S: Source>(
     alloc: Global,
     words: &[String],
     source: &mut S,
 ) -> Result<Answer, Memory>
     ensures allowed { IfOk result (λ a. IsAllowed (map string_bytes words.now)
-        (record { left = S.left source.old; left_after = S.left source.new; faults = S.faults source.old; faults_after = S.faults source.new })
+        (record { left = S.left source.old; left_after = S.left source.new; faults = S.faults source.old; faults_after = S.faults source.new; steady = S.steady source.old })
         a.status a.output.items) }
     ensures left { LosesFront (S.left source.old) (S.left source.new) }
+    ensures quiet { IsTrue (S.steady source.old) → S.faults source.new ≡ S.faults source.old }
 {
-    match read_words(words) {
-        Some(command) => answer_source(alloc, command, source),
-        None => refuse(alloc, Status::Usage, &Refusal::Usage),
+    match answer_words(alloc, words, source) {
+        Ok(answer) => Ok(answer),
+        Err(Stop::Refused(answer)) => Ok(answer),
+        Err(Stop::Memory) => Err(Memory),
     }
 }

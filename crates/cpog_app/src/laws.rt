@@ -1,5 +1,6 @@
 //! What is allowed is one answer: the words and the bytes told decide the status and the output.
-ghost use Rattle.cpog_app.specs.Laws.{AllowedAgree, FirstLeast};
+ghost use Rattle.cpog_app.specs.Complete.{RunsAreComplete};
+ghost use Rattle.cpog_app.specs.Laws.{AllowedAgree};
 
 /// Of the same words and the same told bytes, two allowed answers that are no read fault have the same status and the
 /// same output.
@@ -7,7 +8,7 @@ pub fn allowed_answers_agree()
     ensures { AllowedAgree }
 {}
 
-/// The scenario and the operation that a refused cycle names are the only ones of which this is true.
-pub fn one_first_cyclic()
-    ensures { FirstLeast }
+/// Where no refusal has a cause, and no end fails, a run ends with status 0 or with want of memory.
+pub fn runs_are_complete()
+    ensures { RunsAreComplete }
 {}

@@ -5,19 +5,19 @@
 #![tactic(auto)]
 
 mod answer;
-mod denoting;
-mod fault;
+mod encodable;
+mod graph_text;
 mod laws;
-mod naming;
+mod normal;
 mod refusal;
 mod refusing;
 mod run;
-mod scenarios;
+mod stop;
 mod synth;
 mod synthesis;
 mod words;
 
-pub use laws::{allowed_answers_agree, one_first_cyclic};
+pub use laws::{allowed_answers_agree, runs_are_complete};
 pub use refusal::{Refusal, refusal_line};
 pub use run::run_cpog;
-pub use words::{Command, read_words};
+pub use words::{Command, SynthOptions, read_words};

@@ -1,51 +1,30 @@
-//! From scenarios to a report: their orders, an encoding of these, and the record of all.
-ghost use Rattle.std.specs.Prelude.{◌≡◌, ◌≤◌, ◌^◌, ℕ, List, length, map, Option, IfOk, IfErr};
-ghost use Rattle.cpog_defs.specs.Orders.{Order};
-ghost use Rattle.cpog_defs.specs.Scenarios.{AreOrdersOf};
+//! From what scenarios are encoded from to a report: an encoding, its netlist, and the record of all.
+ghost use Rattle.std.specs.Prelude.{◌≡◌, ◌≤◌, ◌^◌, ℕ, List, length, map, IfOk};
+ghost use Rattle.std.specs.List.{All};
+ghost use Rattle.cpog_defs.specs.Codes.{open_patterns};
+ghost use Rattle.cpog_defs.specs.Orders.{Order, IsOrderOf};
+ghost use Rattle.cpog_defs.specs.Encodings.{Encodes};
+ghost use Rattle.cpog_merge.specs.Columns.{count_of};
+ghost use Rattle.opcode_assign.specs.Assignments.{IsFirstAssignment};
 ghost use Rattle.report_text.specs.Report.{IsBound};
-ghost use Rattle.cpog_app.specs.Bits.{IsBits};
-ghost use Rattle.cpog_app.specs.Denoting.{scenario_names_of, AreOrdersIn};
-ghost use Rattle.cpog_app.specs.Faults.{IsOrderFault, TellsOperation};
-ghost use Rattle.cpog_app.specs.Scenarios.{covering_scenario};
-ghost use Rattle.cpog_app.specs.Synthesis.{AreDifferent, IsBoundOf, IsSynthesis};
+ghost use Rattle.cpog_app.specs.Bits.{MayBeAsked};
+ghost use Rattle.cpog_app.specs.Encodable.{IsEncodable};
+ghost use Rattle.order_reduce.specs.Scenarios.{covering_scenario};
+ghost use Rattle.cpog_app.specs.Synthesis.{free_patterns, IsBoundOf, IsSynthesis};
 
-use crate::fault::OrderFault;
-use crate::scenarios::covering_scenario;
-use cpog_base::{Memory, Name, Order, ScenId, Scenario};
-use gate_core::Encoding;
+use crate::encodable::Encodable;
+use crate::words::SynthOptions;
+use cpog_base::{BIT_LIMIT, Memory, OPERATION_LIMIT, SCENARIO_LIMIT, Scenario};
+use gate_core::{Encoding, free_patterns};
 use handshake_eqs::equations;
 use netlist_verilog::Module;
-use opcode_assign::first_assign;
-use pg_text::File;
+use opcode_assign::{AssignFault, first_assign};
+use order_reduce::{CoveredOrder, covering_scenario};
 use report_text::{Bound, Report};
-use scenario_check::{CycleFault, closure};
 use std::alloc::Global;
 
-/// How many numbers a search may write, where the words don't say.
-const BUDGET: u32 = 2000000;
-
-/// The orders of scenarios.
-pub(crate) fn orders_of(alloc: Global, scenarios: &[Scenario]) -> Result<Vec<Order>, OrderFault>
-    requires { length scenarios.now ≤ 64 }
-    ensures orders { IfOk result (λ orders. AreOrdersOf scenarios.now orders.items) }
-    ensures err { IfErr result (IsOrderFault scenarios.now) }
-    ensures known { IfErr result (TellsOperation scenarios.now) }
-{
-    let mut orders = Vec::new(alloc);
-    for (s, scenario) in scenarios.iter().enumerate() {
-        // No operation of the scenario is as great as its count.
-        let _count = scenario.count();
-        match closure(alloc, scenario) {
-            Ok(order) => orders.push(order)?,
-            Err(CycleFault::Cyclic(v)) => return Err(OrderFault::Cyclic(ScenId(s as u8), v)),
-            Err(CycleFault::Memory) => return Err(OrderFault::Memory),
-        }
-    }
-    Ok(orders)
-}
-
 /// Each scenario with the covering pairs of its order as arcs.
-fn covering_scenarios(alloc: Global, orders: &[Order]) -> Result<Vec<Scenario>, Memory>
+fn covering_scenarios(alloc: Global, orders: &[CoveredOrder]) -> Result<Vec<Scenario>, Memory>
     ensures { IfOk result (λ scenarios. scenarios.items ≡ map covering_scenario orders.now) }
 {
     let mut scenarios = Vec::new(alloc);
@@ -53,6 +32,29 @@ fn covering_scenarios(alloc: Global, orders: &[Order]) -> Result<Vec<Scenario>, 
         scenarios.push(covering_scenario(alloc, order)?)?;
     }
     Ok(scenarios)
+}
+
+/// The first encoding over codes of which no bit is given, where there are enough.
+fn open_assign(alloc: Global, orders: &[CoveredOrder], bits: u8) -> Result<Encoding, Memory>
+    requires some { 1 ≤ length orders.now }
+    requires few { length orders.now ≤ SCENARIO_LIMIT }
+    requires alike { All (IsOrderOf (count_of orders.now)) orders.now }
+    requires few_ops { count_of orders.now ≤ OPERATION_LIMIT }
+    requires some_bit { 1 ≤ bits }
+    requires few_bits { bits ≤ BIT_LIMIT }
+    requires enough { length orders.now ≤ 2 ^ bits }
+    ensures encodes { IfOk result (Encodes (count_of orders.now) orders.now (open_patterns (length orders.now)) bits) }
+    ensures first { IfOk result (IsFirstAssignment (count_of orders.now) orders.now (free_patterns (length orders.now) bits) bits) }
+    ensures few_gates { IfOk result (λ e. length e.gates.gates ≤ 64320) }
+{
+    let given = free_patterns(alloc, orders.len(), bits)?;
+    match first_assign(alloc, orders, &given, bits) {
+        Ok(encoding) => Ok(encoding),
+        Err(AssignFault::Memory) => Err(Memory),
+        // There are enough codes, and any of them will do.
+        Err(AssignFault::TooFewBits) => unreachable!(),
+        Err(AssignFault::Clash(_)) => unreachable!(),
+    }
 }
 
 /// What is known of the least number of gates without a search: it is 0 where there is no gate.
@@ -67,28 +69,34 @@ fn bound_of(encoding: &Encoding) -> Bound
     }
 }
 
-/// The report of a file, whose orders these are, over codes of so many bits, of which there are enough.
+/// The report of a file whose scenarios can be encoded.
 pub(crate) fn report_of(
     alloc: Global,
-    file: File,
-    names: Vec<Name>,
-    orders: &[Order],
-    bits: u8,
+    options: SynthOptions,
+    encodable: Encodable,
 ) -> Result<Report, Memory>
-    requires names { names.items ≡ scenario_names_of file }
-    requires some { 1 ≤ length orders.now }
-    requires few { length orders.now ≤ 64 }
-    requires orders { AreOrdersIn file orders.now }
-    requires different { AreDifferent orders.now }
-    requires some_bit { 1 ≤ bits }
-    requires few_bits { bits ≤ 8 }
-    requires enough { length orders.now ≤ 2 ^ bits }
-    ensures { IfOk result (λ r. (said : Option ℕ) → IsBits said (length orders.now) bits → IsSynthesis said file r) }
+    requires options { MayBeAsked options }
+    requires encodable { IsEncodable options.bits encodable.file encodable }
+    ensures { IfOk result (IsSynthesis options encodable.file) }
 {
-    let scenarios = covering_scenarios(alloc, orders)?;
-    let encoding = first_assign(alloc, orders, bits)?;
+    let Encodable {
+        file,
+        names,
+        orders,
+        bits,
+    } = encodable;
+    let scenarios = covering_scenarios(alloc, &orders)?;
+    let encoding = open_assign(alloc, &orders, bits)?;
     let bound = bound_of(&encoding);
     let netlist = equations(alloc, &encoding)?;
     let design = Module::new(file.into_operations(), netlist);
-    Ok(Report::new(bits, BUDGET, names, scenarios, encoding, bound, design))
+    Ok(Report::new(
+        bits,
+        options.budget,
+        names,
+        scenarios,
+        encoding,
+        bound,
+        design,
+    ))
 }

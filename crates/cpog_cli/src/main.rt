@@ -3,9 +3,15 @@
 //! refused before the call it prints nothing and ends with 1.
 #![tactic(auto)]
 
+ghost use Rattle.std.specs.Prelude.{◌≡◌, IfOk, IfErr};
+ghost use Rattle.std.specs.IoError.{error_kind};
+ghost use Rattle.std.specs.Process.{exit_status};
+ghost use Rattle.cpog_base.specs.Status.{number_of};
+
 use cpog_app::run_cpog;
 use cpog_base::Status;
 use cpog_outside::{StdSink, StdSource};
+use std::io::ErrorKind;
 use std::process::ExitCode;
 use std::{env, io};
 
@@ -21,21 +27,28 @@ fn words_of(rt: &HostRuntime) -> io::Result<Vec<String>> {
     Ok(words)
 }
 
-/// The exit status where the words can't be had.
-fn status_without_words(error: &io::Error) -> u8 {
-    match error.kind() {
-        io::ErrorKind::OutOfMemory => Status::Memory.number(),
-        _ => NOT_TEXT,
-    }
+/// The status of the call on the words and the standard streams.
+fn run(rt: &HostRuntime) -> io::Result<Status> {
+    let words = words_of(rt)?;
+    let mut source = StdSource::new(rt.reader());
+    let mut sink = StdSink::new(io::writer(rt));
+    Ok(run_cpog(rt.alloc(), words.as_slice(), &mut source, &mut sink))
+}
+
+/// How the process ends: with the call's status, or without a call where the words can't be had.
+fn exit_code(ended: io::Result<Status>) -> ExitCode
+    ensures ran { IfOk ended (λ status. exit_status result ≡ number_of status) }
+    ensures no_memory { IfErr ended (λ error. error_kind error ≡ ErrorKind.OutOfMemory → exit_status result ≡ 1) }
+    ensures not_text { IfErr ended (λ error. ¬ (error_kind error ≡ ErrorKind.OutOfMemory) → exit_status result ≡ 14) }
+{
+    let number = match ended {
+        Ok(status) => status.number(),
+        Err(error) if error.kind() == ErrorKind::OutOfMemory => Status::Memory.number(),
+        Err(_) => NOT_TEXT,
+    };
+    ExitCode::from(number)
 }
 
 fn main(rt: HostRuntime) -> ExitCode {
-    let words = match words_of(&rt) {
-        Ok(words) => words,
-        Err(error) => return ExitCode::from(status_without_words(&error)),
-    };
-    let mut source = StdSource::new(rt.reader());
-    let mut sink = StdSink::new(io::writer(&rt));
-    let status = run_cpog(rt.alloc(), words.as_slice(), &mut source, &mut sink);
-    ExitCode::from(status.number())
+    exit_code(run(&rt))
 }

@@ -1,5 +1,5 @@
 use Rattle.std.proofs.Common.{◌≡◌, map, take}
-use Rattle.cpog_app.specs.Scenarios.{covering_scenario}
+use Rattle.order_reduce.specs.Scenarios.{covering_scenario}
 use Rattle.cpog_app.proofs.synthesis.covering_scenarios.Given as goal
 
 abbrev pub invariant-loop-order : goal.invariant-loop-order

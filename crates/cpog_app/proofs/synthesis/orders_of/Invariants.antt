@@ -1,6 +1,0 @@
-use Rattle.std.proofs.Common.{take}
-use Rattle.cpog_defs.specs.Scenarios.{AreOrdersOf}
-use Rattle.cpog_app.proofs.synthesis.orders_of.Given as goal
-
-abbrev pub invariant-loop-s : goal.invariant-loop-s
-invariant-loop-s l = AreOrdersOf (take l.s l.scenarios) l.orders.items

@@ -1,0 +1,57 @@
+-- Runs that are refused for no cause, and in which no end fails.
+use Rattle.std.specs.Prelude.{◌≡◌, ◌≢◌, ◌⊎◌, List, [], ℕ, ◌≤◌, ◌^◌, length, Option, Some}
+use Rattle.cpog_base.specs.declared.limits.TheConstants.{INPUT_LIMIT}
+use Rattle.cpog_base.specs.declared.status.Status.{Status}
+use Rattle.cpog_base.specs.declared.status.Status.TheVariants as status
+use Rattle.cpog_defs.specs.Orders.{Order}
+use Rattle.cpog_outside.specs.Room.{HasRoom}
+use Rattle.pg_text.specs.Contents.{Contents}
+use Rattle.pg_text.specs.Text.{IsFileOf}
+use Rattle.pg_normal.specs.Naming.{name_faults}
+use Rattle.cpog_app.specs.declared.words.Command.{Command}
+use Rattle.cpog_app.specs.declared.words.Command.TheVariants as command
+use Rattle.cpog_app.specs.Words.{command_of}
+use Rattle.cpog_app.specs.Bits.{IsBits}
+use Rattle.pg_normal.specs.Denoting.{stated_in}
+use Rattle.cpog_app.specs.Ordered.{AreOrdersIn}
+use Rattle.scenario_check.specs.Equals.{AreDifferent}
+use Rattle.cpog_app.specs.Allowed.{Input, IsAllowed, Ends}
+
+-- names are in order; there are scenarios, each bound and with no operation before itself, no two are equal, and there
+-- are codes for them
+pub record CanBeEncoded (said : Option ℕ) (f : Contents) : Type 0 where
+  pub some : stated_in f ≢ []
+  pub orders : List Order
+  pub of_file : AreOrdersIn f orders
+  pub different : AreDifferent orders
+  pub bits : ℕ
+  pub bits_are : IsBits said (length orders) bits
+  pub enough : length orders ≤ 2 ^ bits
+
+-- the bytes are within the limit and spell a file of which this holds
+pub record SpellFile (OfFile : Contents → Type 0) (bytes : List ℕ) : Type 0 where
+  pub within : length bytes ≤ INPUT_LIMIT
+  pub file : Contents
+  pub is_file : IsFileOf bytes file
+  pub holds : OfFile file
+
+-- bytes that a command refuses for no cause
+abbrev pub AreGoodFor : Command → List ℕ → Type 0
+AreGoodFor (command.Synth options) = SpellFile (CanBeEncoded options.bits)
+AreGoodFor command.Normal = SpellFile (λ f. name_faults f ≡ [])
+
+-- the words name a command, which refuses the bytes for no cause
+pub record IsGoodRun (words : List (List ℕ)) (bytes : List ℕ) : Type 0 where
+  pub command : Command
+  pub named : command_of words ≡ Some command
+  pub good : AreGoodFor command bytes
+
+-- a good run in which no end fails is ended by its whole output, or by want of memory
+abbrev pub RunsAreComplete : Type 0
+RunsAreComplete = (words : List (List ℕ)) (told : List ℕ) (input : Input) (taken taken_after : Option (List ℕ)) (s : Status) →
+    input.left ≡ Some told → IsGoodRun words told → Ends words input taken taken_after s →
+    s ≢ status.ReadFault → s ≢ status.WriteFault → (s ≡ status.Ok) ⊎ (s ≡ status.Memory)
+
+-- the sink has room for whatever the words and the input allow
+abbrev pub HasRoomForAll : List (List ℕ) → Input → Option ℕ → Type 0
+HasRoomForAll words input room = (s : Status) (output : List ℕ) → IsAllowed words input s output → HasRoom room (length output)

@@ -1,0 +1,27 @@
+//! What `normal` answers to a graph text.
+ghost use Rattle.std.specs.Prelude.{◌≤◌, IfOk, IfErr, length};
+ghost use Rattle.cpog_app.specs.Answers.{IsNormalAnswer};
+ghost use Rattle.cpog_app.specs.Allowed.{IsGraphTextAnswer};
+ghost use Rattle.cpog_app.specs.Stops.{IsStop};
+
+use crate::graph_text::{file_of, names_of};
+use crate::stop::{Answer, Stop};
+use cpog_base::{INPUT_LIMIT, Status};
+use pg_normal::{forms_in, write_forms};
+use std::alloc::Global;
+
+/// The answer to a graph text: the normal forms of its file.
+pub(crate) fn answer_normal(alloc: Global, bytes: &[u8]) -> Result<Answer, Stop>
+    requires { length bytes.now ≤ INPUT_LIMIT }
+    ensures ok { IfOk result (λ a. IsGraphTextAnswer IsNormalAnswer bytes.now a.status a.output.items) }
+    ensures err { IfErr result (IsStop (IsGraphTextAnswer IsNormalAnswer bytes.now)) }
+{
+    let file = file_of(alloc, bytes)?;
+    let scope = names_of(alloc, &file)?;
+    let forms = forms_in(alloc, &file, &scope)?;
+    let output = write_forms(alloc, &file, &scope, &forms)?;
+    Ok(Answer {
+        status: Status::Ok,
+        output,
+    })
+}
