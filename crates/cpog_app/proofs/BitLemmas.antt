@@ -5,20 +5,24 @@ use Rattle.std.proofs.lemmas.Bool.{and_parts}
 use Rattle.std.proofs.lemmas.Bool.Decides.{nat_tests}
 use Rattle.std.proofs.lemmas.Option.{none-some, same_Some}
 use Rattle.opcode_assign.specs.Bits.{IsLeastBits}
+use Rattle.cpog_app.specs.declared.encodable.CodeLength.{CodeLength}
 use Rattle.cpog_app.specs.declared.words.Command.{Command}
 use Rattle.cpog_app.specs.declared.words.Command.TheVariants as command
 use Rattle.cpog_app.specs.declared.words.SaidOptions.{SaidOptions}
 use Rattle.cpog_app.specs.Words.{bits_in, bits_alone, either_said, joined, unsaid, options_in, settled, alone, command_of}
-use Rattle.cpog_app.specs.Bits.{MayBeSaid, MayBeNamed, IsBits}
+use Rattle.cpog_app.specs.Bits.{MayBeSaid, MayBeNamed, IsSaidOrLeast, IsBits}
 
 -- one number is the least
-pub one_least : (n a b : ℕ) → IsLeastBits 1 n a → IsLeastBits 1 n b → a ≡ b
-one_least n a b h k = omega (arith, h.least b k.some k.enough, k.least a h.some h.enough)
+pub one_least : (from n a b : ℕ) → IsLeastBits from n a → IsLeastBits from n b → a ≡ b
+one_least from n a b h k = omega (arith, h.least b k.some k.enough, k.least a h.some h.enough)
 
 -- the bits of so many scenarios are one number
-pub one_bits : (said : Option ℕ) (n a b : ℕ) → IsBits said n a → IsBits said n b → a ≡ b
-one_bits None n a b h k = one_least n a b h k
-one_bits (Some bits) n a b h k = h ∙ sym k
+pub one_bits : (asked : CodeLength) (n a b : ℕ) → IsBits asked n a → IsBits asked n b → a ≡ b
+one_bits asked n a b = one asked.said
+  where
+    one : (said : Option ℕ) → IsSaidOrLeast asked.least said n a → IsSaidOrLeast asked.least said n b → a ≡ b
+    one None h k = one_least asked.least n a b h k
+    one (Some bits) h k = h ∙ sym k
 
 -- ---- a command says 1 to 8 bits, or none
 

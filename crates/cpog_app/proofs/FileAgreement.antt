@@ -1,6 +1,5 @@
 -- What is printed for a file is one answer: each cause has one output, and it stands only where no cause before it does.
-use Rattle.std.proofs.Common.{◌≡◌, ℕ, ◌≤◌, ◌^◌, List, [], length, map, Some, slice_get, sym, ap, ap₂, ◌∙◌, subst, arith, inl, inr}
-use Rattle.std.specs.Prelude.{Option}
+use Rattle.std.proofs.Common.{◌≢◌, ◌≡◌, ℕ, ◌≤◌, ◌^◌, List, [], length, map, Some, slice_get, sym, ap, ap₂, ◌∙◌, subst, arith, inl, inr}
 use Rattle.std.proofs.lemmas.Bool.{cases_lt}
 use Rattle.std.proofs.lemmas.List.{length-map}
 use Rattle.std.proofs.lemmas.Option.{none-some, same_Some}
@@ -19,13 +18,13 @@ use Rattle.scenario_check.specs.Equals.{AreEqualAt, IsFirstPair}
 use Rattle.report_text.specs.Rows.{report_lines}
 use Rattle.cpog_app.specs.declared.refusal.Refusal.TheVariants as refusal
 use Rattle.cpog_app.specs.declared.words.SynthOptions.{SynthOptions}
-use Rattle.cpog_app.specs.Bits.{IsBits}
+use Rattle.cpog_app.specs.declared.encodable.CodeLength.{CodeLength}
+use Rattle.cpog_app.specs.Bits.{synth_length, IsBits}
 use Rattle.cpog_app.specs.Refusal.{refusal_text, IsNamesLine}
 use Rattle.pg_normal.specs.Denoting.{Stated, stated_in, scenario_names_of, AreScenariosOf, LeavesOpen, IsFirstUnbound}
 use Rattle.cpog_app.specs.Ordered.{AreOrdersIn}
-use Rattle.scenario_check.specs.Equals.{AreDifferent}
 use Rattle.cpog_app.specs.Refusal.{At}
-use Rattle.cpog_app.specs.Refusals.{IsNameFaultAnswer, IsEmptyAnswer, IsUnboundAnswer, IsCyclicAnswer, IsEqualAnswer, IsManyAnswer}
+use Rattle.cpog_app.specs.Refusals.{IsEncodingRefusal, IsNameFaultAnswer, IsEmptyAnswer, IsUnboundAnswer, IsCyclicAnswer, IsEqualAnswer, IsManyAnswer}
 use Rattle.cpog_app.specs.Answers.{IsFormsAnswer, IsNormalAnswer, IsReportAnswer, IsSynthAnswer}
 use Rattle.cpog_app.specs.Complete.{CanBeEncoded}
 use Rattle.cpog_app.proofs.Causes.{Cause, IsOne, AreApart, either, one_at, one_either}
@@ -114,10 +113,7 @@ module _ (f : Contents) where
   one_normal : IsOne (either name_fault forms)
   one_normal = one_either name_fault forms (one_at status.Names (IsNameFaultAnswer f) one_fault_answer) (one_at status.Ok (IsFormsAnswer f) one_forms_answer) (λ s t x y h k. no_fault x k.1.of_file.names h.1)
 
-module _ (options : SynthOptions) (f : Contents) where
-  abbrev said : Option ℕ
-  said = options.bits
-
+module _ (asked : CodeLength) (f : Contents) where
   -- ---- each cause has one output
 
   one_empty_answer : (x y : List ℕ) → IsEmptyAnswer f x → IsEmptyAnswer f y → x ≡ y
@@ -143,14 +139,11 @@ module _ (options : SynthOptions) (f : Contents) where
       let earlier : h.earlier_name ≡ k.earlier_name = same_Some h.earlier_name k.earlier_name (sym h.earlier_is ∙ ap (slice_get (scenario_names_of f)) same.1 ∙ k.earlier_is) in
       h.output_is ∙ ap₂ (λ a b. refusal_text (refusal.Equal a b)) later earlier ∙ sym k.output_is
 
-  one_many_answer : (x y : List ℕ) → IsManyAnswer said f x → IsManyAnswer said f y → x ≡ y
+  one_many_answer : (x y : List ℕ) → IsManyAnswer asked f x → IsManyAnswer asked f y → x ≡ y
   one_many_answer x y h k =
       let orders : k.orders ≡ h.orders = one_orders f k.orders h.orders k.of_file h.of_file in
-      let bits : h.bits ≡ k.bits = one_bits said (length h.orders) h.bits k.bits h.bits_are (subst (λ os. IsBits said (length os) k.bits) orders k.bits_are) in
+      let bits : h.bits ≡ k.bits = one_bits asked (length h.orders) h.bits k.bits h.bits_are (subst (λ os. IsBits asked (length os) k.bits) orders k.bits_are) in
       h.output_is ∙ ap (λ n. refusal_text (refusal.Limit counted.Bits n)) bits ∙ sym k.output_is
-
-  one_report_answer : (x y : List ℕ) → IsReportAnswer options f x → IsReportAnswer options f y → x ≡ y
-  one_report_answer x y h k = h.output_is ∙ ap (λ r. text_of (report_lines r)) (one_report options f h.report k.report h.synthesis k.synthesis) ∙ sym k.output_is
 
   -- ---- the causes in their order
 
@@ -167,16 +160,10 @@ module _ (options : SynthOptions) (f : Contents) where
   equal = At status.Equal (IsEqualAnswer f)
 
   abbrev many : Cause
-  many = At status.Limit (IsManyAnswer said f)
-
-  abbrev report : Cause
-  report = At status.Ok (IsReportAnswer options f)
-
-  abbrev from_many : Cause
-  from_many = either many report
+  many = At status.Limit (IsManyAnswer asked f)
 
   abbrev from_equal : Cause
-  from_equal = either equal from_many
+  from_equal = either equal many
 
   abbrev from_cyclic : Cause
   from_cyclic = either cyclic from_equal
@@ -187,15 +174,10 @@ module _ (options : SynthOptions) (f : Contents) where
   abbrev from_empty : Cause
   from_empty = either empty from_unbound
 
-  -- from there on no two scenarios are equal
-  different : (s : Status) (x : List ℕ) → from_many s x → (orders : List Order) × AreOrdersIn f orders × AreDifferent orders
-  different s x (inl h) = (h.1.orders, h.1.of_file, h.1.different)
-  different s x (inr h) = (h.1.synthesis.sound.orders, h.1.synthesis.sound.of_file, h.1.synthesis.sound.different)
-
-  -- and none has an operation before itself
+  -- from there on no scenario has an operation before itself
   ordered : (s : Status) (x : List ℕ) → from_equal s x → (orders : List Order) × AreOrdersIn f orders
   ordered s x (inl h) = (h.1.orders, h.1.of_file)
-  ordered s x (inr h) = let k = different s x h in (k.0, k.1)
+  ordered s x (inr h) = (h.1.orders, h.1.of_file)
 
   -- none leaves a parameter open
   denoted : (s : Status) (x : List ℕ) → from_cyclic s x → (scenarios : List Scenario) × AreScenariosOf f scenarios
@@ -214,7 +196,7 @@ module _ (options : SynthOptions) (f : Contents) where
 
   -- ---- each stands where none before it does
 
-  -- a file without scenarios has none that is cyclic, equal to another, or printed
+  -- a file without scenarios has none that is cyclic or equal to another, nor too many
   none_there : (s : Status) (x : List ℕ) → stated_in f ≡ [] → from_unbound s x → ⊥
   none_there s x none (inl h) = none-some h.1.first.scenario (ap (λ xs. slice_get xs h.1.first.place) (sym none) ∙ h.1.first.stands)
   none_there s x none (inr (inl h)) = no_cycle h.1
@@ -222,25 +204,15 @@ module _ (options : SynthOptions) (f : Contents) where
       no_cycle : IsCyclicAnswer f x → ⊥
       no_cycle h = none-some h.scenario_name (ap (λ xs. slice_get (map (λ (y : Stated). y.name) xs) h.number) (sym none) ∙ h.scenario_is)
   none_there s x none (inr (inr (inl h))) = none-some h.1.later_name (ap (λ xs. slice_get (map (λ (y : Stated). y.name) xs) h.1.later) (sym none) ∙ h.1.later_is)
-  none_there s x none (inr (inr (inr (inl h)))) = absurd (omega (arith, h.1.many, no_orders h.1.orders h.1.of_file))
+  none_there s x none (inr (inr (inr h))) = absurd (omega (arith, h.1.many, no_orders h.1.orders h.1.of_file))
     where
       no_orders : (orders : List Order) → AreOrdersIn f orders → length orders ≡ 0
       no_orders orders z = length-orders z.scenarios orders z.of_scenarios ∙ length-denoted (length f.operations) (stated_in f) z.scenarios z.denoted ∙ ap length none
-  none_there s x none (inr (inr (inr (inr h)))) =
-      let names : length h.1.report.scenario_names ≡ 0 = ap length h.1.synthesis.sound.scenario_names ∙ length-map (stated_in f) _ ∙ ap length none in
-      absurd (omega (arith, names, h.1.synthesis.sound.report.one_name_each, h.1.synthesis.sound.report.some_scenario))
 
-  many_or_report : AreApart many report
-  many_or_report s t x y h k =
-      let same : length h.1.orders ≡ length k.1.synthesis.sound.orders = ap length (one_orders f h.1.orders k.1.synthesis.sound.orders h.1.of_file k.1.synthesis.sound.of_file) in
-      let bits : h.1.bits ≡ k.1.report.bits = one_bits said (length h.1.orders) h.1.bits k.1.report.bits h.1.bits_are (subst (λ n. IsBits said n k.1.report.bits) (sym same) k.1.synthesis.bits) in
-      let few : length k.1.synthesis.sound.orders ≤ 2 ^ h.1.bits = subst (λ n. length k.1.synthesis.sound.orders ≤ 2 ^ n) (sym bits) k.1.synthesis.sound.enough_bits in
-      absurd (omega (arith, same, few, h.1.many))
-
-  equal_or_more : AreApart equal from_many
-  equal_or_more s t x y h k =
-      let rest = different t y k in
-      rest.2 h.1.later h.1.earlier (subst (λ os. AreEqualAt os h.1.later h.1.earlier) (one_orders f h.1.orders rest.0 h.1.of_file rest.1) h.1.first.equal)
+  equal_or_many : AreApart equal many
+  equal_or_many s t x y h k =
+      k.1.different h.1.later h.1.earlier
+      (subst (λ os. AreEqualAt os h.1.later h.1.earlier) (one_orders f h.1.orders k.1.orders h.1.of_file k.1.of_file) h.1.first.equal)
 
   cyclic_or_more : AreApart cyclic from_equal
   cyclic_or_more s t x y h k =
@@ -252,42 +224,24 @@ module _ (options : SynthOptions) (f : Contents) where
       let rest = denoted t y k in
       none_open (length f.operations) (stated_in f) rest.0 rest.1 h.1.first.place h.1.number h.1.first.scenario h.1.first.stands h.1.first.unbound
 
-  -- ---- a file has one answer
+  -- ---- a file has one refusal
 
-  one_synth : IsOne (either (name_fault f) from_empty)
-  one_synth =
+  one_refusal : IsOne (IsEncodingRefusal asked f)
+  one_refusal =
       one_either (name_fault f) from_empty (one_at status.Names (IsNameFaultAnswer f) (one_fault_answer f))
       (one_either empty from_unbound (one_at status.Names (IsEmptyAnswer f) one_empty_answer)
       (one_either unbound from_cyclic (one_at status.Names (IsUnboundAnswer f) one_unbound_answer)
       (one_either cyclic from_equal (one_at status.Cyclic (IsCyclicAnswer f) one_cyclic_answer)
-      (one_either equal from_many (one_at status.Equal (IsEqualAnswer f) one_equal_answer)
-      (one_either many report (one_at status.Limit (IsManyAnswer said f) one_many_answer) (one_at status.Ok (IsReportAnswer options f) one_report_answer) many_or_report)
-      equal_or_more)
+      (one_either equal many (one_at status.Equal (IsEqualAnswer f) one_equal_answer) (one_at status.Limit (IsManyAnswer asked f) one_many_answer)
+      equal_or_many)
       cyclic_or_more)
       unbound_or_more)
       (λ s t x y h k. none_there t y h.1.none k))
       (λ s t x y h k. no_fault f x (named t y k) h.1)
 
-  -- where names are refused, or else scenarios, or else a report is printed, one of the causes stands
-  cause_of_synth : (s : Status) (x : List ℕ) → IsSynthAnswer options f s x → either (name_fault f) from_empty s x
-  cause_of_synth s x (inl (inl h)) = inl h
-  cause_of_synth s x (inl (inr (inl h))) = inr (inl h)
-  cause_of_synth s x (inl (inr (inr (inl h)))) = inr (inr (inl h))
-  cause_of_synth s x (inl (inr (inr (inr (inl h))))) = inr (inr (inr (inl h)))
-  cause_of_synth s x (inl (inr (inr (inr (inr (inl h)))))) = inr (inr (inr (inr (inl h))))
-  cause_of_synth s x (inl (inr (inr (inr (inr (inr h)))))) = inr (inr (inr (inr (inr (inl h)))))
-  cause_of_synth s x (inr h) = inr (inr (inr (inr (inr (inr h)))))
+-- ---- a file whose scenarios can be encoded is refused for no cause
 
-  pub synth_answers_agree : IsOne (IsSynthAnswer options f)
-  synth_answers_agree s t x y h k = one_synth s t x y (cause_of_synth s x h) (cause_of_synth t y k)
-
--- no option is asked of normal forms
-pub normal_answers_agree : (f : Contents) → IsOne (IsNormalAnswer f)
-normal_answers_agree f = one_normal f
-
--- ---- a file that is refused for no cause
-
-module _ (options : SynthOptions) (f : Contents) (good : CanBeEncoded options.bits f) where
+module _ (asked : CodeLength) (f : Contents) (good : CanBeEncoded asked f) where
   not_empty : (x : List ℕ) → IsEmptyAnswer f x → ⊥
   not_empty x h = good.some h.none
 
@@ -302,22 +256,65 @@ module _ (options : SynthOptions) (f : Contents) (good : CanBeEncoded options.bi
   not_equal : (x : List ℕ) → IsEqualAnswer f x → ⊥
   not_equal x h = good.different h.later h.earlier (subst (λ os. AreEqualAt os h.later h.earlier) (one_orders f h.orders good.orders h.of_file good.of_file) h.first.equal)
 
-  not_many : (x : List ℕ) → IsManyAnswer options.bits f x → ⊥
+  not_many : (x : List ℕ) → IsManyAnswer asked f x → ⊥
   not_many x h =
       let same : length h.orders ≡ length good.orders = ap length (one_orders f h.orders good.orders h.of_file good.of_file) in
-      let bits : h.bits ≡ good.bits = one_bits options.bits (length h.orders) h.bits good.bits h.bits_are (subst (λ n. IsBits options.bits n good.bits) (sym same) good.bits_are) in
+      let bits : h.bits ≡ good.bits = one_bits asked (length h.orders) h.bits good.bits h.bits_are (subst (λ n. IsBits asked n good.bits) (sym same) good.bits_are) in
       let few : length good.orders ≤ 2 ^ h.bits = subst (λ n. length good.orders ≤ 2 ^ n) (sym bits) good.enough in
       omega (arith, same, few, h.many)
 
-  -- its answer has status 0
-  pub synth_is_ok : (s : Status) (x : List ℕ) → IsSynthAnswer options f s x → s ≡ status.Ok
-  synth_is_ok s x (inl (inl h)) = absurd (no_fault f x good.of_file.named h.1)
-  synth_is_ok s x (inl (inr (inl h))) = absurd (not_empty x h.1)
-  synth_is_ok s x (inl (inr (inr (inl h)))) = absurd (not_unbound x h.1)
-  synth_is_ok s x (inl (inr (inr (inr (inl h))))) = absurd (not_cyclic x h.1)
-  synth_is_ok s x (inl (inr (inr (inr (inr (inl h)))))) = absurd (not_equal x h.1)
-  synth_is_ok s x (inl (inr (inr (inr (inr (inr h)))))) = absurd (not_many x h.1)
-  synth_is_ok s x (inr h) = h.0
+  pub not_refused : (s : Status) (x : List ℕ) → IsEncodingRefusal asked f s x → ⊥
+  not_refused s x (inl h) = no_fault f x good.of_file.named h.1
+  not_refused s x (inr (inl h)) = not_empty x h.1
+  not_refused s x (inr (inr (inl h))) = not_unbound x h.1
+  not_refused s x (inr (inr (inr (inl h)))) = not_cyclic x h.1
+  not_refused s x (inr (inr (inr (inr (inl h))))) = not_equal x h.1
+  not_refused s x (inr (inr (inr (inr (inr h))))) = not_many x h.1
+
+-- one answer of a file whose scenarios can be encoded, and the refusals of others, are one answer
+pub encoding_answers_agree : (asked : CodeLength) (f : Contents) (answers : Cause) → IsOne answers →
+    ((s : Status) (x : List ℕ) → answers s x → CanBeEncoded asked f) → IsOne (either (IsEncodingRefusal asked f) answers)
+encoding_answers_agree asked f answers one encoded =
+    one_either (IsEncodingRefusal asked f) answers (one_refusal asked f) one (λ s t x y h k. not_refused asked f (encoded t y k) s x h)
+
+-- ---- `synth`
+
+module _ (options : SynthOptions) (f : Contents) where
+  one_report_answer : (x y : List ℕ) → IsReportAnswer options f x → IsReportAnswer options f y → x ≡ y
+  one_report_answer x y h k = h.output_is ∙ ap (λ r. text_of (report_lines r)) (one_report options f h.report k.report h.synthesis k.synthesis) ∙ sym k.output_is
+
+  some_stated : (x : List ℕ) → IsReportAnswer options f x → stated_in f ≢ []
+  some_stated x h none =
+      let sound = h.synthesis.sound in
+      let names : length h.report.scenario_names ≡ 0 = ap length sound.scenario_names ∙ length-map (stated_in f) _ ∙ ap length none in
+      absurd (omega (arith, names, sound.report.one_name_each, sound.report.some_scenario))
+
+  of_encoded : (x : List ℕ) → IsReportAnswer options f x → CanBeEncoded (synth_length options) f
+  of_encoded x h = record {
+    some = some_stated x h;
+    orders = h.synthesis.sound.orders;
+    of_file = h.synthesis.sound.of_file;
+    different = h.synthesis.sound.different;
+    bits = h.report.bits;
+    bits_are = h.synthesis.bits;
+    enough = h.synthesis.sound.enough_bits;
+  }
+
+  pub synth_answers_agree : IsOne (IsSynthAnswer options f)
+  synth_answers_agree =
+      encoding_answers_agree (synth_length options) f (At status.Ok (IsReportAnswer options f))
+      (one_at status.Ok (IsReportAnswer options f) one_report_answer) (λ s x h. of_encoded x h.1)
+
+  -- its answer has status 0 where the scenarios can be encoded
+  pub synth_is_ok : CanBeEncoded (synth_length options) f → (s : Status) (x : List ℕ) → IsSynthAnswer options f s x → s ≡ status.Ok
+  synth_is_ok good s x (inl h) = absurd (not_refused (synth_length options) f good s x h)
+  synth_is_ok good s x (inr h) = h.0
+
+-- ---- `normal`
+
+-- no option is asked of normal forms
+pub normal_answers_agree : (f : Contents) → IsOne (IsNormalAnswer f)
+normal_answers_agree f = one_normal f
 
 pub normal_is_ok : (f : Contents) → name_faults f ≡ [] → (s : Status) (x : List ℕ) → IsNormalAnswer f s x → s ≡ status.Ok
 normal_is_ok f none s x (inl h) = absurd (no_fault f x none h.1)

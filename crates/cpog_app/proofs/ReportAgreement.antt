@@ -13,7 +13,7 @@ use Rattle.report_text.proofs.NetlistLemmas.{one_netlist}
 use Rattle.opcode_assign.specs.Assignments.{IsFirstAssignment}
 use Rattle.opcode_assign.proofs.AssignmentLemmas.{one_first_assignment}
 use Rattle.cpog_app.specs.declared.words.SynthOptions.{SynthOptions}
-use Rattle.cpog_app.specs.Bits.{IsBits}
+use Rattle.cpog_app.specs.Bits.{synth_length, IsBits}
 use Rattle.cpog_app.specs.Synthesis.{free_patterns, IsBoundOf, IsSynthesis}
 use Rattle.cpog_app.proofs.BitLemmas.{one_bits}
 use Rattle.cpog_app.proofs.OrderAgreement.{one_orders}
@@ -38,7 +38,7 @@ one_report options f a b i j =
     let h = i.sound in
     let k = j.sound in
     let same : k.orders ≡ h.orders = one_orders f k.orders h.orders k.of_file h.of_file in
-    let bits : a.bits ≡ b.bits = one_bits options.bits (length h.orders) a.bits b.bits i.bits (subst (λ os. IsBits options.bits (length os) b.bits) same j.bits) in
+    let bits : a.bits ≡ b.bits = one_bits (synth_length options) (length h.orders) a.bits b.bits i.bits (subst (λ os. IsBits (synth_length options) (length os) b.bits) same j.bits) in
     let n : ℕ = length f.operations in
     let given : List (List Bit3) = free_patterns (length h.orders) a.bits in
     let conditions : IsFirstAssignment n h.orders given a.bits b.encoding =

@@ -25,7 +25,7 @@ use Rattle.pg_normal.specs.Denoting.{Stated, stated_in, scenario_names_of, IsDen
 use Rattle.cpog_app.specs.Ordered.{AreOrdersIn}
 use Rattle.scenario_check.specs.Equals.{AreDifferent}
 use Rattle.cpog_app.specs.declared.words.SynthOptions.{SynthOptions}
-use Rattle.cpog_app.specs.Bits.{IsBits}
+use Rattle.cpog_app.specs.Bits.{synth_length, IsBits}
 use Rattle.cpog_app.specs.Synthesis.{free_patterns, IsBoundOf, IsSound, IsSynthesis}
 use Rattle.order_reduce.specs.Scenarios.{covering_scenario}
 use Rattle.cpog_app.proofs.ArcLemmas.{arcs_from, arcs_where, from_u, begin_below, has_one, has_append}
@@ -226,7 +226,7 @@ module _ (f : Contents) (orders : List Order) (z : AreOrdersIn f orders) (some :
 
     -- and the file's synthesis, where bits and budget are as they are said
     pub report_is_synthesis : (options : SynthOptions) → length orders ≤ 2 ^ bits → AreDifferent orders → IsFirstAssignment (count_of orders) orders (free_patterns (length orders) bits) bits e → IsBoundOf (length f.operations) orders e b →
-        IsBits options.bits (length orders) bits → budget ≡ options.budget → IsSynthesis options f report
+        IsBits (synth_length options) (length orders) bits → budget ≡ options.budget → IsSynthesis options f report
     unfolding report_is_sound
     report_is_synthesis options enough different first known said same = record { sound = report_is_sound enough different first known; bits = said; budget = same }
 

@@ -10,6 +10,7 @@ use Rattle.pg_normal.specs.Listing.{normal_text}
 use Rattle.report_text.specs.Report.{ReportValue}
 use Rattle.report_text.specs.Rows.{report_lines}
 use Rattle.cpog_app.specs.declared.words.SynthOptions.{SynthOptions}
+use Rattle.cpog_app.specs.Bits.{synth_length}
 use Rattle.cpog_app.specs.Refusal.{At}
 use Rattle.cpog_app.specs.Refusals.{IsNamesRefusal, IsEncodingRefusal}
 use Rattle.cpog_app.specs.Synthesis.{IsSynthesis}
@@ -36,4 +37,4 @@ pub record IsReportAnswer (options : SynthOptions) (f : Contents) (output : List
   pub controller : PrintsController f.operations synthesis.sound.orders report.encoding.codes output
 
 abbrev pub IsSynthAnswer : SynthOptions → Contents → Status → List ℕ → Type 0
-IsSynthAnswer options f s output = IsEncodingRefusal options.bits f s output ⊎ At status.Ok (IsReportAnswer options f) s output
+IsSynthAnswer options f s output = IsEncodingRefusal (synth_length options) f s output ⊎ At status.Ok (IsReportAnswer options f) s output

@@ -11,7 +11,8 @@ use Rattle.pg_normal.specs.Naming.{name_faults}
 use Rattle.cpog_app.specs.declared.words.Command.{Command}
 use Rattle.cpog_app.specs.declared.words.Command.TheVariants as command
 use Rattle.cpog_app.specs.Words.{command_of}
-use Rattle.cpog_app.specs.Bits.{IsBits}
+use Rattle.cpog_app.specs.declared.encodable.CodeLength.{CodeLength}
+use Rattle.cpog_app.specs.Bits.{synth_length, IsBits}
 use Rattle.pg_normal.specs.Denoting.{stated_in}
 use Rattle.cpog_app.specs.Ordered.{AreOrdersIn}
 use Rattle.scenario_check.specs.Equals.{AreDifferent}
@@ -19,13 +20,13 @@ use Rattle.cpog_app.specs.Allowed.{Input, IsAllowed, Ends}
 
 -- names are in order; there are scenarios, each bound and with no operation before itself, no two are equal, and there
 -- are codes for them
-pub record CanBeEncoded (said : Option ℕ) (f : Contents) : Type 0 where
+pub record CanBeEncoded (asked : CodeLength) (f : Contents) : Type 0 where
   pub some : stated_in f ≢ []
   pub orders : List Order
   pub of_file : AreOrdersIn f orders
   pub different : AreDifferent orders
   pub bits : ℕ
-  pub bits_are : IsBits said (length orders) bits
+  pub bits_are : IsBits asked (length orders) bits
   pub enough : length orders ≤ 2 ^ bits
 
 -- the bytes are within the limit and spell a file of which this holds
@@ -37,7 +38,7 @@ pub record SpellFile (OfFile : Contents → Type 0) (bytes : List ℕ) : Type 0 
 
 -- bytes that a command refuses for no cause
 abbrev pub AreGoodFor : Command → List ℕ → Type 0
-AreGoodFor (command.Synth options) = SpellFile (CanBeEncoded options.bits)
+AreGoodFor (command.Synth options) = SpellFile (CanBeEncoded (synth_length options))
 AreGoodFor command.Normal = SpellFile (λ f. name_faults f ≡ [])
 
 -- the words name a command, which refuses the bytes for no cause

@@ -1,5 +1,5 @@
 -- The refusals of a graph text, of the names of its file, and of its scenarios, each in the order in which they come.
-use Rattle.std.specs.Prelude.{◌≡◌, ◌⊎◌, List, [], ℕ, ◌<◌, ◌^◌, length, slice_get, Option, Some}
+use Rattle.std.specs.Prelude.{◌≡◌, ◌⊎◌, List, [], ℕ, ◌<◌, ◌^◌, length, slice_get, Some}
 use Rattle.cpog_base.specs.declared.limits.Counted.{Counted}
 use Rattle.cpog_base.specs.declared.limits.Counted.TheVariants as counted
 use Rattle.cpog_base.specs.declared.status.Status.{Status}
@@ -14,6 +14,7 @@ use Rattle.pg_normal.specs.Naming.{name_faults, IsNameFault}
 use Rattle.pg_normal.specs.Normals.{params_in}
 use Rattle.scenario_check.specs.Equals.{IsFirstPair}
 use Rattle.cpog_app.specs.declared.refusal.Refusal.TheVariants as refusal
+use Rattle.cpog_app.specs.declared.encodable.CodeLength.{CodeLength}
 use Rattle.cpog_app.specs.Bits.{IsBits}
 use Rattle.cpog_app.specs.Refusal.{refusal_text, IsNamesLine, At}
 use Rattle.pg_normal.specs.Denoting.{stated_in, scenario_names_of, AreScenariosOf, IsFirstUnbound}
@@ -96,23 +97,23 @@ pub record IsEqualAnswer (f : Contents) (output : List ℕ) : Type 0 where
   pub output_is : output ≡ refusal_text (refusal.Equal later_name earlier_name)
 
 -- no scenario has an operation before itself, no two are equal, and there are more of them than codes of so many bits
-pub record IsManyAnswer (said : Option ℕ) (f : Contents) (output : List ℕ) : Type 0 where
+pub record IsManyAnswer (asked : CodeLength) (f : Contents) (output : List ℕ) : Type 0 where
   pub orders : List Order
   pub of_file : AreOrdersIn f orders
   pub different : AreDifferent orders
   pub bits : ℕ
-  pub bits_are : IsBits said (length orders) bits
+  pub bits_are : IsBits asked (length orders) bits
   pub many : 2 ^ bits < length orders
   pub output_is : output ≡ refusal_text (refusal.Limit counted.Bits bits)
 
-abbrev pub IsScenarioRefusal : Option ℕ → Contents → Status → List ℕ → Type 0
-IsScenarioRefusal said f s output =
+abbrev pub IsScenarioRefusal : CodeLength → Contents → Status → List ℕ → Type 0
+IsScenarioRefusal asked f s output =
     At status.Names (IsEmptyAnswer f) s output
     ⊎ (At status.Names (IsUnboundAnswer f) s output
     ⊎ (At status.Cyclic (IsCyclicAnswer f) s output
     ⊎ (At status.Equal (IsEqualAnswer f) s output
-    ⊎ At status.Limit (IsManyAnswer said f) s output)))
+    ⊎ At status.Limit (IsManyAnswer asked f) s output)))
 
 -- the refusals of a file whose scenarios are to be encoded
-abbrev pub IsEncodingRefusal : Option ℕ → Contents → Status → List ℕ → Type 0
-IsEncodingRefusal said f s output = IsNamesRefusal f s output ⊎ IsScenarioRefusal said f s output
+abbrev pub IsEncodingRefusal : CodeLength → Contents → Status → List ℕ → Type 0
+IsEncodingRefusal asked f s output = IsNamesRefusal f s output ⊎ IsScenarioRefusal asked f s output

@@ -13,7 +13,7 @@ use Rattle.report_text.specs.declared.bound.Bound.{Bound}
 use Rattle.report_text.specs.declared.bound.Bound.TheVariants.{Minimum, Unknown}
 use Rattle.report_text.specs.Report.{ReportValue, IsReport}
 use Rattle.cpog_app.specs.declared.words.SynthOptions.{SynthOptions}
-use Rattle.cpog_app.specs.Bits.{IsBits}
+use Rattle.cpog_app.specs.Bits.{synth_length, IsBits}
 use Rattle.pg_normal.specs.Denoting.{scenario_names_of}
 use Rattle.cpog_app.specs.Ordered.{AreOrdersIn}
 use Rattle.order_reduce.specs.Scenarios.{covering_scenario}
@@ -48,5 +48,5 @@ pub record IsSound (f : Contents) (r : ReportValue) : Type 0 where
 -- a sound report of the file over the said bits, with the said budget
 pub record IsSynthesis (options : SynthOptions) (f : Contents) (r : ReportValue) : Type 0 where
   pub sound : IsSound f r
-  pub bits : IsBits options.bits (length sound.orders) r.bits
+  pub bits : IsBits (synth_length options) (length sound.orders) r.bits
   pub budget : r.budget ≡ options.budget

@@ -2,7 +2,7 @@
 ghost use Rattle.std.specs.Prelude.{◌≡◌, ◌<◌, ◌≤◌, ◌^◌, [], IfOk, IfErr, OnOk, length};
 ghost use Rattle.cpog_base.specs.declared.status.Status.TheVariants as status;
 ghost use Rattle.pg_normal.specs.Naming.{name_faults, IsScopeOf};
-ghost use Rattle.cpog_app.specs.Bits.{IsBits, MayBeSaid};
+ghost use Rattle.cpog_app.specs.Bits.{IsBits, MayBeLength};
 ghost use Rattle.pg_normal.specs.Denoting.{scenario_names_of, AreScenariosOf};
 ghost use Rattle.cpog_app.specs.Ordered.{AreOrdersIn};
 ghost use Rattle.cpog_app.specs.Encodable.{IsEncodable};
@@ -95,18 +95,27 @@ fn check_different(alloc: Global, file: &File, names: &Names, orders: &[Order]) 
     }
 }
 
+/// How long codes are to be.
+#[derive(Clone, Copy)]
+pub(crate) struct CodeLength {
+    /// The least number of bits, from 1 to 8, where none is said.
+    pub(crate) least: u8,
+    /// The number of bits that is said, from 1 to 8.
+    pub(crate) said: Option<u8>,
+}
+
 /// How many bits the codes of so many scenarios have: as many as are said, or else as few as tell them apart.
-fn bits_of(said: Option<u8>, scenarios: u8) -> u8
-    requires said { MayBeSaid said }
+fn bits_for(asked: CodeLength, scenarios: u8) -> u8
+    requires asked { MayBeLength asked }
     requires some { 1 ≤ scenarios }
     requires few { scenarios ≤ SCENARIO_LIMIT }
-    ensures bits { IsBits said scenarios result }
+    ensures bits { IsBits asked scenarios result }
     ensures some { 1 ≤ result }
     ensures few { result ≤ BIT_LIMIT }
 {
-    match said {
+    match asked.said {
         Some(bits) => bits,
-        None => default_bits(scenarios, 1),
+        None => default_bits(scenarios, asked.least),
     }
 }
 
@@ -119,19 +128,19 @@ fn code_count(bits: u8) -> usize
 }
 
 /// How many bits the codes of these scenarios have, where there is a code for each.
-fn code_bits(alloc: Global, said: Option<u8>, file: &File, orders: &[Order]) -> Result<u8, Stop>
-    requires said { MayBeSaid said }
+fn code_bits(alloc: Global, asked: CodeLength, file: &File, orders: &[Order]) -> Result<u8, Stop>
+    requires asked { MayBeLength asked }
     requires some { 1 ≤ length orders.now }
     requires orders { AreOrdersIn file.now orders.now }
     requires different { AreDifferent orders.now }
     requires few { length orders.now ≤ SCENARIO_LIMIT }
-    ensures bits { IfOk result (IsBits said (length orders.now)) }
+    ensures bits { IfOk result (IsBits asked (length orders.now)) }
     ensures some { IfOk result (λ bits. 1 ≤ bits) }
     ensures few { IfOk result (λ bits. bits ≤ BIT_LIMIT) }
     ensures enough { IfOk result (λ bits. length orders.now ≤ 2 ^ bits) }
-    ensures err { IfErr result (IsStop (At status.Limit (IsManyAnswer said file.now))) }
+    ensures err { IfErr result (IsStop (At status.Limit (IsManyAnswer asked file.now))) }
 {
-    let bits = bits_of(said, orders.len() as u8);
+    let bits = bits_for(asked, orders.len() as u8);
     if orders.len() > code_count(bits) {
         let refusal = Refusal::Limit {
             what: Counted::Bits,
@@ -143,10 +152,10 @@ fn code_bits(alloc: Global, said: Option<u8>, file: &File, orders: &[Order]) -> 
 }
 
 /// What the scenarios of a file are encoded from, over as many bits as are said or as few as tell them apart.
-pub(crate) fn encodable_of(alloc: Global, said: Option<u8>, file: File) -> Result<Encodable, Stop>
-    requires { MayBeSaid said }
-    ensures ok { IfOk result (λ e. IsEncodable said file e) }
-    ensures err { IfErr result (IsStop (IsEncodingRefusal said file)) }
+pub(crate) fn encodable_of(alloc: Global, asked: CodeLength, file: File) -> Result<Encodable, Stop>
+    requires { MayBeLength asked }
+    ensures ok { IfOk result (λ e. IsEncodable asked file e) }
+    ensures err { IfErr result (IsStop (IsEncodingRefusal asked file)) }
 {
     let scope = names_of(alloc, &file)?;
     if scope.scenarios().is_empty() {
@@ -155,7 +164,7 @@ pub(crate) fn encodable_of(alloc: Global, said: Option<u8>, file: File) -> Resul
     let scenarios = scenarios_in(alloc, &file, &scope)?;
     let orders = orders_in(alloc, &file, scope.scenarios(), &scenarios)?;
     check_different(alloc, &file, scope.scenarios(), &orders)?;
-    let bits = code_bits(alloc, said, &file, &orders)?;
+    let bits = code_bits(alloc, asked, &file, &orders)?;
     Ok(Encodable {
         file,
         names: scope.into_scenarios(),

@@ -5,7 +5,7 @@ ghost use Rattle.cpog_app.specs.Allowed.{IsGraphTextAnswer};
 ghost use Rattle.cpog_app.specs.Bits.{MayBeAsked};
 ghost use Rattle.cpog_app.specs.Stops.{IsStop};
 
-use crate::encodable::encodable_of;
+use crate::encodable::{CodeLength, encodable_of};
 use crate::graph_text::file_of;
 use crate::stop::{Answer, Stop};
 use crate::synthesis::report_of;
@@ -26,7 +26,11 @@ pub(crate) fn answer_synth(
     ensures err { IfErr result (IsStop (IsGraphTextAnswer (IsSynthAnswer options) bytes.now)) }
 {
     let file = file_of(alloc, bytes)?;
-    let encodable = encodable_of(alloc, options.bits, file)?;
+    let asked = CodeLength {
+        least: 1,
+        said: options.bits,
+    };
+    let encodable = encodable_of(alloc, asked, file)?;
     let report = report_of(alloc, options, encodable)?;
     let output = write_report(alloc, &report)?;
     Ok(Answer {

@@ -7,7 +7,7 @@ ghost use Rattle.cpog_defs.specs.Encodings.{Encodes};
 ghost use Rattle.cpog_merge.specs.Columns.{count_of};
 ghost use Rattle.opcode_assign.specs.Assignments.{IsFirstAssignment};
 ghost use Rattle.report_text.specs.Report.{IsBound};
-ghost use Rattle.cpog_app.specs.Bits.{MayBeAsked};
+ghost use Rattle.cpog_app.specs.Bits.{synth_length, MayBeAsked};
 ghost use Rattle.cpog_app.specs.Encodable.{IsEncodable};
 ghost use Rattle.order_reduce.specs.Scenarios.{covering_scenario};
 ghost use Rattle.cpog_app.specs.Synthesis.{free_patterns, IsBoundOf, IsSynthesis};
@@ -76,7 +76,7 @@ pub(crate) fn report_of(
     encodable: Encodable,
 ) -> Result<Report, Memory>
     requires options { MayBeAsked options }
-    requires encodable { IsEncodable options.bits encodable.file encodable }
+    requires encodable { IsEncodable (synth_length options) encodable.file encodable }
     ensures { IfOk result (IsSynthesis options encodable.file) }
 {
     let Encodable {

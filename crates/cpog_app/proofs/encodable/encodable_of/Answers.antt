@@ -15,28 +15,28 @@ pub returns-then-is_empty-clause-err : goal.returns-then-is_empty-clause-err
 returns-then-is_empty-clause-err c =
     let f = c.args.file in
     let none : scenario_names_of f ≡ [] = sym c.in_ok-scope.ensures.scenarios ∙ sym c.scenarios.ensures ∙ c.is_empty.ensures.0 c.if-is_empty.true in
-    stop_map (Tells status.Names refusal.NoScenario) (IsEncodingRefusal c.args.said f)
+    stop_map (Tells status.Names refusal.NoScenario) (IsEncodingRefusal c.args.asked f)
     (λ s x h. inr (inl (h.0, record { named = c.in_ok-scope.ensures.ok.in_order; none = none_stated f none; output_is = h.1 }))) c.refuse.result c.refuse.ensures
 
 pub returns-in_err-scenarios-clause-err : goal.returns-in_err-scenarios-clause-err
 returns-in_err-scenarios-clause-err c =
     let p = err_from_is_err_and c.from_residual-in_err-scenarios.result c.from_residual-in_err-scenarios.ensures.1 in
-    rw (p.1, p.2) (stop_map (At status.Names (IsUnboundAnswer c.args.file)) (IsEncodingRefusal c.args.said c.args.file) (λ s x k. inr (inr (inl k))) c.in_err-scenarios.field-0.0 c.in_err-scenarios.ensures.err)
+    rw (p.1, p.2) (stop_map (At status.Names (IsUnboundAnswer c.args.file)) (IsEncodingRefusal c.args.asked c.args.file) (λ s x k. inr (inr (inl k))) c.in_err-scenarios.field-0.0 c.in_err-scenarios.ensures.err)
 
 pub returns-in_err-orders-clause-err : goal.returns-in_err-orders-clause-err
 returns-in_err-orders-clause-err c =
     let p = err_from_is_err_and c.from_residual-in_err-orders.result c.from_residual-in_err-orders.ensures.1 in
-    rw (p.1, p.2) (stop_map (At status.Cyclic (IsCyclicAnswer c.args.file)) (IsEncodingRefusal c.args.said c.args.file) (λ s x k. inr (inr (inr (inl k)))) c.in_err-orders.field-0.0 c.in_err-orders.ensures.err)
+    rw (p.1, p.2) (stop_map (At status.Cyclic (IsCyclicAnswer c.args.file)) (IsEncodingRefusal c.args.asked c.args.file) (λ s x k. inr (inr (inr (inl k)))) c.in_err-orders.field-0.0 c.in_err-orders.ensures.err)
 
 pub returns-in_err-check_different-clause-err : goal.returns-in_err-check_different-clause-err
 returns-in_err-check_different-clause-err c =
     let p = err_from_is_err_and c.from_residual-in_err-check_different.result c.from_residual-in_err-check_different.ensures.1 in
-    rw (p.1, p.2) (stop_map (At status.Equal (IsEqualAnswer c.args.file)) (IsEncodingRefusal c.args.said c.args.file) (λ s x k. inr (inr (inr (inr (inl k))))) c.in_err-check_different.field-0.0 c.in_err-check_different.ensures.err)
+    rw (p.1, p.2) (stop_map (At status.Equal (IsEqualAnswer c.args.file)) (IsEncodingRefusal c.args.asked c.args.file) (λ s x k. inr (inr (inr (inr (inl k))))) c.in_err-check_different.field-0.0 c.in_err-check_different.ensures.err)
 
 pub returns-in_err-bits-clause-err : goal.returns-in_err-bits-clause-err
 returns-in_err-bits-clause-err c =
     let p = err_from_is_err_and c.from_residual-in_err-bits.result c.from_residual-in_err-bits.ensures.1 in
-    rw (p.1, p.2) (stop_map (At status.Limit (IsManyAnswer c.args.said c.args.file)) (IsEncodingRefusal c.args.said c.args.file) (λ s x k. inr (inr (inr (inr (inr k))))) c.in_err-bits.field-0.0 c.in_err-bits.ensures.err)
+    rw (p.1, p.2) (stop_map (At status.Limit (IsManyAnswer c.args.asked c.args.file)) (IsEncodingRefusal c.args.asked c.args.file) (λ s x k. inr (inr (inr (inr (inr k))))) c.in_err-bits.field-0.0 c.in_err-bits.ensures.err)
 
 pub returns-in_err-covered_orders-clause-err : goal.returns-in_err-covered_orders-clause-err
 returns-in_err-covered_orders-clause-err c =
@@ -62,7 +62,7 @@ returns-clause-ok c =
       few = rw same c.in_ok-orders.ensures.few;
       orders = rw same c.in_ok-orders.ensures.orders;
       different = rw same (subst AreDifferent c.deref-2.ensures.value c.in_ok-check_different.ensures.ok);
-      bits = rw same (subst (λ n. IsBits c.args.said n c.in_ok-bits.bits) size c.in_ok-bits.ensures.bits);
+      bits = rw same (subst (λ n. IsBits c.args.asked n c.in_ok-bits.bits) size c.in_ok-bits.ensures.bits);
       some_bit = c.in_ok-bits.ensures.some;
       few_bits = c.in_ok-bits.ensures.few;
       enough = rw same (omega (arith, size, c.in_ok-bits.ensures.enough));

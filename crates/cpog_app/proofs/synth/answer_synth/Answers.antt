@@ -2,6 +2,7 @@ use Rattle.std.proofs.Common.{refl, subst, inl, inr}
 use Rattle.std.proofs.lemmas.Result.{err_from_is_err_and}
 use Rattle.cpog_app.specs.Allowed.{IsGraphTextAnswer}
 use Rattle.cpog_app.specs.Answers.{IsSynthAnswer}
+use Rattle.cpog_app.specs.Bits.{synth_length}
 use Rattle.cpog_app.specs.Refusals.{IsEncodingRefusal}
 use Rattle.cpog_app.specs.Synthesis.{IsSynthesis}
 use Rattle.cpog_app.proofs.PrintedLemmas.{report_answers}
@@ -12,7 +13,7 @@ pub returns-in_err-encodable-clause-err : goal.returns-in_err-encodable-clause-e
 returns-in_err-encodable-clause-err c =
     let f = c.in_ok-file.file in
     let p = err_from_is_err_and c.from_residual-in_err-encodable.result c.from_residual-in_err-encodable.ensures.1 in
-    rw (p.1, p.2) (stop_map (IsEncodingRefusal c.args.options.bits f) (IsGraphTextAnswer (IsSynthAnswer c.args.options) c.args.bytes.now)
+    rw (p.1, p.2) (stop_map (IsEncodingRefusal (synth_length c.args.options) f) (IsGraphTextAnswer (IsSynthAnswer c.args.options) c.args.bytes.now)
     (λ s x k. inr (record { file = f; is_file = c.in_ok-file.ensures.ok; answer = inl k })) c.in_err-encodable.field-0.0 c.in_err-encodable.ensures.err)
 
 pub returns-in_err-output-clause-err : goal.returns-in_err-output-clause-err
