@@ -1,5 +1,5 @@
 -- Literals, clauses, and the assignments that satisfy them.
-use Rattle.std.specs.Prelude.{◌≡◌, ◌⊎◌, ℕ, ◌-◌, Bool, false, not, if◌then◌else◌, IsTrue, List, [], ◌∷◌, slice_index_or}
+use Rattle.std.specs.Prelude.{◌≡◌, ◌≢◌, ◌⊎◌, ℕ, ◌-◌, Bool, false, not, if◌then◌else◌, IsTrue, List, [], ◌∷◌, slice_index_or}
 use Rattle.std.specs.List.{list_any}
 
 -- a variable or its complement
@@ -19,6 +19,11 @@ Clause = List Lit
 abbrev pub In : Lit → Clause → Type 0
 In l [] = ⊥
 In l (m ∷ c) = (l ≡ m) ⊎ In l c
+
+-- no two literals of the clause have one variable
+abbrev pub HasEachVariableOnce : Clause → Type 0
+HasEachVariableOnce [] = Unit {0}
+HasEachVariableOnce (l ∷ c) = ((m : Lit) → In m c → m.var ≢ l.var) × HasEachVariableOnce c
 
 -- under an assignment of the variables
 abbrev pub lit_true : (ℕ → Bool) → Lit → Bool
