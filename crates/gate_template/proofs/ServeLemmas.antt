@@ -20,7 +20,7 @@ use Rattle.cpog_base.specs.Column.{is_zero}
 use Rattle.gate_core.specs.Columns.{IsOpenColumn}
 use Rattle.cpog_base.specs.BitLaws.{bit-zero}
 use Rattle.gate_core.proofs.GateLemmas.{input-signal, gate-signal, gate_reads}
-use Rattle.cpog_merge.proofs.AgreeLemmas.{some_asked}
+use Rattle.cpog_merge.proofs.ConverseLemmas.{no_constant}
 use Rattle.clause_arena.specs.Clauses.{Satisfies, by_place}
 use Rattle.gate_forms.specs.Forms.{flipped, IsNormal, IsNormalForm, idle_gate, padded, DifferBy, IsFlipped}
 use Rattle.gate_forms.proofs.FormLemmas.{flipped_twice, padded_ref_value, length-padded, padded_valid}
@@ -38,29 +38,13 @@ use Rattle.gate_template.proofs.LiftLemmas.{keeps, kept_at, not_given, open_at, 
 
 -- ---- an open column takes a signal
 
--- a column that asks for a 0 asks for it at some scenario
-zero_asked : (column : List Bit3) → IsTrue (list_any is_zero column) → (s : ℕ) × (entry_at column s ≡ Zero)
-zero_asked [] h = absurd (both_ways _ refl h)
-zero_asked (Zero ∷ xs) h = (zero, refl)
-zero_asked (One ∷ xs) h = let r = zero_asked xs h in (suc r.0, r.1)
-zero_asked (Free ∷ xs) h = let r = zero_asked xs h in (suc r.0, r.1)
-
-pub within_column : (column : List Bit3) (s : ℕ) → entry_at column s ≢ Free → s < length column
-within_column column s ne = elim (cases_lt s (length column)) [ inl l ↦ l | inr m ↦ absurd (ne (get_or_past column s Free m)) ]
-
 abbrev pub IsSignal : Ref → Type 0
 IsSignal r = r ≡ Signal (signal_of r) (sign_of r)
 
 pub takes_signal : (n : ℕ) (gates : GateList) (codes : List ℕ) (column : List Bit3) (r : Ref) → length codes ≡ n → IsOpenColumn n column → RefAgrees gates codes column r → IsSignal r
 takes_signal n gates codes column (Signal m negated) each opens agree = refl
 takes_signal n gates codes column (Const b) each opens agree =
-    let one = some_asked column opens.some_one in
-    let zer = zero_asked column opens.some_zero in
-    let lo : one.0 < length codes = omega (arith, within_column column one.0 (λ f. let no : One ≡ Free = sym one.1 ∙ f in cc), opens.entries) in
-    let lz : zer.0 < length codes = omega (arith, within_column column zer.0 (λ f. let no : Zero ≡ Free = sym zer.1 ∙ f in cc), opens.entries) in
-    let t : b ≡ true = subst (λ e. Agrees e b) one.1 (agree one.0 (get_or codes one.0 0) (slice_get-get_or codes one.0 0 lo)) in
-    let f : b ≡ false = subst (λ e. Agrees e b) zer.1 (agree zer.0 (get_or codes zer.0 0) (slice_get-get_or codes zer.0 0 lz)) in
-    absurd (both_ways b f t)
+    absurd (no_constant gates codes column (Const b) (record { entries = refl; some_one = opens.some_one; some_zero = opens.some_zero }) (each ∙ sym opens.entries) agree)
 
 -- ---- normal gates, as many as asked for
 
