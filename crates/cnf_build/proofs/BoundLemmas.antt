@@ -8,7 +8,7 @@ use Rattle.gate_template.specs.Counts.{pairs, selections}
 use Rattle.gate_template.specs.Variables.{variables}
 use Rattle.gate_template.specs.Templates.{shape_of, template}
 use Rattle.gate_template.proofs.PlaceLemmas.{length-variables}
-use Rattle.gate_template.proofs.CountLemmas.{twice_pairs, selections_next}
+use Rattle.gate_template.proofs.CountedLemmas.{gates_le}
 use Rattle.gate_template.specs.Counts.{further_count}
 use Rattle.gate_template.proofs.SizeLemmas.{clauses_are, literals_are}
 use Rattle.clause_arena.specs.Arenas.{literals}
@@ -16,16 +16,6 @@ use Rattle.gate_template.specs.Counts.{all_defined}
 use Rattle.cnf_build.specs.Sizes.{IsAsked}
 use Rattle.cpog_base.specs.declared.limits.TheConstants.{TEMPLATE_LIMIT}
 use Rattle.cnf_build.specs.Placed.{IsShape}
-
-some_pairs : (m : ℕ) → 2 ≤ m → 1 ≤ pairs m
-some_pairs m l =
-    let h = twice_pairs m in
-    let s : m * 2 ≤ m * m = mul-le-mul_left m l in
-    omega arith
-
-gates_le : (l g : ℕ) → 2 ≤ l → g ≤ selections l g
-gates_le l zero two = omega arith
-gates_le l (suc g) two = omega (arith, gates_le l g two, selections_next l g, some_pairs (l + g) (omega arith))
 
 variables_le : (n l g k p s e f : ℕ) → 1 ≤ n → n ≤ 64 → 2 ≤ l → l ≤ 8 → g ≤ s →
     n * l + p * l + s + g * 3 + g * n + k * (l + g) + k ≤ 512 + 2 * (p * (l * 6 + l) + ((g * 0 + s * (n * 34 + 1)) + ((k * (l + g) + (l + g) * (e * 6)) + f)))

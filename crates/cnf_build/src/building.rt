@@ -1,4 +1,5 @@
-//! The clauses of a template, in order.
+//! The clauses of a template, in order. Each loop appends what one definition says, so that the whole is the template.
+
 ghost use Rattle.std.specs.Prelude.{◌≡◌, ◌+◌, ◌<◌, ◌≤◌, ◌++◌, ◌∷◌, [], length, IfOk, OnOk};
 ghost use Rattle.std.specs.List.{All};
 ghost use Rattle.gate_template.specs.Variables.{variables};
@@ -79,7 +80,9 @@ pub(crate) fn shape_asked(classes: &ClassList, given: &[Pattern], bits: u8, gate
     }
 }
 
-/// The clauses of a template, in order.
+/// The formula of a template (DIMACS CNF): its variables by their places from 1, and its clauses family by family. It is
+/// satisfiable exactly where the scenarios of the classes have an encoding of so many bits and at most so many gates,
+/// which under `Third` keeps the given bits. Room for all of it is made at once.
 ///
 /// # Errors
 ///

@@ -1,4 +1,5 @@
 //! From an assignment to codes, gates and references.
+
 ghost use Rattle.std.specs.Prelude.{◌≡◌, ◌≤◌, length, IfOk};
 ghost use Rattle.clause_arena.specs.Clauses.{Satisfies, by_place};
 ghost use Rattle.gate_template.specs.Templates.{template, shape_of};
@@ -24,8 +25,8 @@ pub struct Decoded {
     pub refs: Vec<Ref>,
 }
 
-/// The codes, the gates and the references of an assignment that satisfies a template: for each gate its first true
-/// selection, and for each class its first true signal.
+/// The codes, the gates and the references of an assignment that satisfies a template. A gate reads the first pair of
+/// signals that is selected for it, and a class is taken from the first signal that is chosen for it.
 ///
 /// # Errors
 ///
@@ -46,7 +47,6 @@ pub fn decode(
     ensures gates { IfOk result (λ d. length d.gates.gates ≡ gates) }
     ensures first { IfOk result (λ d. IsDecoded (value_in assignment.now (shape_of given.now bits gates classes.now.columns)) (shape_of given.now bits gates classes.now.columns) (parts_of d.codes.items d.gates d.refs.items)) }
 {
-    let _kind = kind;
     let numbers = Numbers::new(shape_asked(classes, given, bits, gates));
     let codes = codes_read(alloc, &numbers, assignment)?;
     let list = gates_read(alloc, &numbers, assignment)?;

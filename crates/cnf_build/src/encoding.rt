@@ -1,4 +1,5 @@
 //! From codes, gates and references to an assignment.
+
 ghost use Rattle.std.specs.Prelude.{◌≡◌, ◌≤◌, length, IfOk};
 ghost use Rattle.std.specs.List.{All};
 ghost use Rattle.gate_core.specs.Columns.{IsOpenColumn};
@@ -20,7 +21,8 @@ use gate_forms::{normalise, pad};
 use gate_template::Template;
 use std::alloc::Global;
 
-/// An assignment that satisfies a template, from codes, gates and references that serve its classes.
+/// An assignment that satisfies a template, from codes, gates and references that serve its classes. The gates are made
+/// normal and as many as the template has.
 ///
 /// # Errors
 ///
@@ -42,7 +44,6 @@ pub fn encode(
     ensures satisfies { IfOk result (λ values. Satisfies (by_place values.items) (template kind given.now decoded.now.gates.inputs gates classes.now.columns)) }
     ensures one_each { IfOk result (λ values. length values.items ≡ length (variables (shape_of given.now decoded.now.gates.inputs gates classes.now.columns))) }
 {
-    let _kind = kind;
     let (list, refs) = normalise(alloc, &decoded.gates, &decoded.refs)?;
     // What makes it a list of gates is known once they are lent.
     let _all = list.gates();

@@ -1,4 +1,5 @@
 //! What the second and the third template add: given bits, and zeros in the first code.
+
 ghost use Rattle.std.specs.Prelude.{◌≡◌, ◌+◌, ◌<◌, ◌≤◌, ◌++◌, ◌∷◌, [], if◌then◌else◌, length, slice_index_or, IfOk, OnOk};
 ghost use Rattle.std.specs.List.{All};
 ghost use Rattle.cpog_defs.specs.Orders.{each_below};

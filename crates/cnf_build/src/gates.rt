@@ -1,4 +1,5 @@
 //! Each gate is read from a pair of earlier signals, and its values are its table's.
+
 ghost use Rattle.std.specs.Prelude.{◌≡◌, ◌+◌, ◌<◌, ◌≤◌, ◌++◌, ◌∷◌, [], IfOk, OnOk};
 ghost use Rattle.cpog_defs.specs.Orders.{each_below};
 ghost use Rattle.clause_arena.specs.Clauses.{opposite};

@@ -1,5 +1,8 @@
-//! The templates as formulas: how many clauses they have, the clauses in order, and both ways between assignments and
-//! codes, gates and references.
+//! Templates as formulas: how large one is, its clauses in order, and both ways between the assignments that satisfy it
+//! and codes, gates and references. The definitions of `gate_template`, the clauses of `clause_arena` and the forms of
+//! `gate_forms` stand below. It promises that `build` makes exactly the clauses that are defined, that `decode` reads a
+//! solution from each assignment that satisfies them, and that `encode` makes such an assignment of each solution that
+//! has no more gates. So the law of `gate_template` is about the formulas that are made here.
 #![tactic(auto)]
 
 mod building;
@@ -14,6 +17,8 @@ mod numbers;
 mod reading;
 mod rows;
 mod size;
+#[cfg(test)]
+mod tests;
 mod whole;
 mod writing;
 

@@ -1,4 +1,5 @@
 //! The values of all signals on each code.
+
 ghost use Rattle.std.specs.Prelude.{◌≡◌, ◌+◌, ◌<◌, ◌≤◌, false, length, slice_index_or, IfOk};
 ghost use Rattle.cpog_defs.specs.Gates.{signal_count, signal_values};
 ghost use Rattle.gate_template.specs.Listed.{listed};

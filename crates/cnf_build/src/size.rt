@@ -1,4 +1,5 @@
-//! How large a template is.
+//! How large a template is. Its numbers are sums of products, each of which fits a word of 64 bits.
+
 ghost use Rattle.std.specs.Prelude.{◌≡◌, ◌+◌, ◌*◌, ◌<◌, ◌≤◌, if◌then◌else◌, length};
 ghost use Rattle.std.specs.List.{All};
 ghost use Rattle.gate_template.specs.Templates.{template, shape_of};
@@ -167,7 +168,8 @@ fn literals_of(t: Totals) -> u64
         + t.further
 }
 
-/// How many variables, clauses and literals a template has.
+/// How many variables, clauses and literals a template has: what these classes, patterns and gates ask for. It says this
+/// before anything is made, and takes no memory.
 pub fn template_size(
     kind: Template,
     classes: &ClassList,

@@ -1,4 +1,5 @@
 //! The values of a template's variables under codes, gates and references, in the printed order.
+
 ghost use Rattle.std.specs.Prelude.{◌≡◌, ◌+◌, ◌<◌, ◌≤◌, ◌++◌, ◌∷◌, [], map, length, IfOk, OnOk};
 ghost use Rattle.cpog_defs.specs.Gates.{signal_values};
 ghost use Rattle.cpog_defs.specs.Orders.{each_below};

@@ -30,24 +30,31 @@ selections l (suc g) = selections l g + pairs (l + g)
 
 -- ---- how many variables stand before each block
 
+-- those before D: the bits of all codes
 abbrev pub before_d : Shape → ℕ
 before_d z = z.scenarios * z.bits
 
+-- those before Sel: also one for each pair of scenarios and bit
 abbrev pub before_sel : Shape → ℕ
 before_sel z = before_d z + pairs z.scenarios * z.bits
 
+-- those before T: also one for each gate and pair of signals before it
 abbrev pub before_t : Shape → ℕ
 before_t z = before_sel z + selections z.bits z.gates
 
+-- those before V: also three rows of a table for each gate
 abbrev pub before_v : Shape → ℕ
 before_v z = before_t z + z.gates * 3
 
+-- those before O: also one for each gate and scenario
 abbrev pub before_o : Shape → ℕ
 before_o z = before_v z + z.gates * z.scenarios
 
+-- those before P: also one for each class and signal
 abbrev pub before_p : Shape → ℕ
 before_p z = before_o z + z.classes * (z.bits + z.gates)
 
+-- all of them: also one for each class
 abbrev pub variable_count : Shape → ℕ
 variable_count z = before_p z + z.classes
 
@@ -73,11 +80,13 @@ further_count First bits patterns = 0
 further_count Second bits patterns = bits
 further_count Third bits patterns = all_defined patterns + open_bits patterns bits
 
+-- how many clauses a template has
 abbrev pub clause_count : Template → Shape → List (List Bit3) → List (List Bit3) → ℕ
 clause_count kind z patterns columns =
     pairs z.scenarios * (2 * z.bits + 1) + z.gates + 7 * z.scenarios * selections z.bits z.gates
     + z.classes + 2 * (z.bits + z.gates) * all_defined columns + further_count kind z.bits patterns
 
+-- how many literals its clauses have together
 abbrev pub literal_count : Template → Shape → List (List Bit3) → List (List Bit3) → ℕ
 literal_count kind z patterns columns =
     7 * z.bits * pairs z.scenarios + (34 * z.scenarios + 1) * selections z.bits z.gates

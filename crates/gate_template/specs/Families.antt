@@ -14,9 +14,11 @@ use Rattle.gate_template.specs.Variables.{Var, X, D, Sel, T, V, O, P, each_pair,
 abbrev pub NamedLiteral : Type 0
 NamedLiteral = Var × Bool
 
+-- the variable as it stands
 abbrev pub plain : Var → NamedLiteral
 plain x = (x, false)
 
+-- its complement
 abbrev pub complemented : Var → NamedLiteral
 complemented x = (x, true)
 
@@ -24,10 +26,11 @@ complemented x = (x, true)
 abbrev pub numbered : Shape → NamedLiteral → Lit
 numbered z x = record { var = number z x.0; negated = x.1 }
 
--- a named clause, and named clauses, by the numbers of their variables
+-- a named clause, by the numbers of its variables
 unfoldable pub as_clause : Shape → List NamedLiteral → Clause
 as_clause z named = map (numbered z) named
 
+-- named clauses, by the numbers of their variables
 unfoldable pub as_clauses : Shape → List (List NamedLiteral) → List Clause
 as_clauses z named = map (as_clause z) named
 
@@ -44,9 +47,11 @@ differ_at s t i =
 abbrev pub some_bit : Shape → ℕ → ℕ → List NamedLiteral
 some_bit z s t = each_below (λ i. plain (D s t i) ∷ []) z.bits
 
+-- the codes of s and t differ, in a bit that D says
 abbrev pub code_pair : Shape → ℕ → ℕ → List (List NamedLiteral)
 code_pair z s t = each_below (differ_at s t) z.bits ++ some_bit z s t ∷ []
 
+-- any two codes differ
 unfoldable pub code_clauses : Shape → List (List NamedLiteral)
 code_clauses z = each_pair (code_pair z) z.scenarios
 
@@ -67,6 +72,7 @@ gate_clauses_at z g j k s =
     ∷ (sel ∷ complemented a ∷ complemented b ∷ plain (V g s) ∷ complemented (T g 3) ∷ [])
     ∷ []
 
+-- where gate g is read from j and k, its value in each scenario is its table's
 abbrev pub gate_pair : Shape → ℕ → ℕ → ℕ → List (List NamedLiteral)
 gate_pair z g j k = each_below (gate_clauses_at z g j k) z.scenarios
 
@@ -74,9 +80,11 @@ gate_pair z g j k = each_below (gate_clauses_at z g j k) z.scenarios
 abbrev pub some_pair : Shape → ℕ → List NamedLiteral
 some_pair z g = each_pair (λ j k. plain (Sel g j k) ∷ []) (z.bits + g)
 
+-- gate g is read from some pair, and has the values of its table there
 abbrev pub one_gate : Shape → ℕ → List (List NamedLiteral)
 one_gate z g = some_pair z g ∷ each_pair (gate_pair z g) (z.bits + g)
 
+-- each gate is
 unfoldable pub gate_clauses : Shape → List (List NamedLiteral)
 gate_clauses z = each_below (one_gate z) z.gates
 
@@ -90,6 +98,7 @@ class_clauses_at z c n s One =
 class_clauses_at z c n s Zero =
     (complemented (O c n) ∷ complemented (value_var z n s) ∷ plain (P c) ∷ []) ∷ (complemented (O c n) ∷ plain (value_var z n s) ∷ complemented (P c) ∷ []) ∷ []
 
+-- where class c is taken from signal n, its value in each scenario is as the column asks
 abbrev pub class_signal : Shape → ℕ → List Bit3 → ℕ → List (List NamedLiteral)
 class_signal z c column n = each_below (λ s. class_clauses_at z c n s (entry_at column s)) z.scenarios
 
@@ -97,9 +106,11 @@ class_signal z c column n = each_below (λ s. class_clauses_at z c n s (entry_at
 abbrev pub some_signal : Shape → ℕ → List NamedLiteral
 some_signal z c = each_below (λ n. plain (O c n) ∷ []) (z.bits + z.gates)
 
+-- class c is taken from some signal, which has the values that its column asks for
 abbrev pub one_class : Shape → List (List Bit3) → ℕ → List (List NamedLiteral)
 one_class z columns c = some_signal z c ∷ each_below (class_signal z c (slice_index_or columns c [])) (z.bits + z.gates)
 
+-- each class is
 unfoldable pub class_clauses : Shape → List (List Bit3) → List (List NamedLiteral)
 class_clauses z columns = each_below (one_class z columns) z.classes
 
@@ -111,9 +122,11 @@ given_bit s i Free = []
 given_bit s i One = (plain (X s i) ∷ []) ∷ []
 given_bit s i Zero = (complemented (X s i) ∷ []) ∷ []
 
+-- each bit of the code of s is as its pattern gives it
 abbrev pub given_pattern : Shape → ℕ → List Bit3 → List (List NamedLiteral)
 given_pattern z s pattern = each_below (λ i. given_bit s i (entry_at pattern i)) z.bits
 
+-- each bit of each code is
 unfoldable pub given_clauses : Shape → List (List Bit3) → List (List NamedLiteral)
 given_clauses z patterns = each_below (λ s. given_pattern z s (slice_index_or patterns s [])) z.scenarios
 

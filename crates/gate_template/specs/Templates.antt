@@ -19,6 +19,7 @@ further_clauses First z patterns = []
 further_clauses Second z patterns = all_zero_clauses z
 further_clauses Third z patterns = given_clauses z patterns ++ zero_clauses z patterns
 
+-- the clauses of a template by name: distinct codes, gates, classes, and what it adds to the first
 abbrev pub named_template : Template → Shape → List (List Bit3) → List (List Bit3) → List (List NamedLiteral)
 named_template kind z patterns columns = code_clauses z ++ (gate_clauses z ++ (class_clauses z columns ++ further_clauses kind z patterns))
 

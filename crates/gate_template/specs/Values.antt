@@ -20,21 +20,25 @@ pub record Parts : Type 0 where
   pub gates : GateList
   pub refs : List Ref
 
+-- the code of a scenario
 abbrev pub code_of : Parts → ℕ → ℕ
 code_of e s = slice_index_or e.codes s 0
 
+-- gate h
 abbrev pub gate_of : Parts → ℕ → Gate
 gate_of e h = slice_index_or e.gates.gates h idle_gate
 
--- the signal of which a reference speaks, and its sign
+-- the signal of which a reference speaks
 abbrev pub signal_of : Ref → ℕ
 signal_of (Const b) = 0
 signal_of (Signal n negated) = n
 
+-- whether a reference is to a complement
 abbrev pub sign_of : Ref → Bool
 sign_of (Const b) = false
 sign_of (Signal n negated) = negated
 
+-- the reference of class c
 abbrev pub ref_at : Parts → ℕ → Ref
 ref_at e c = slice_index_or e.refs c (Const false)
 
@@ -42,6 +46,7 @@ ref_at e c = slice_index_or e.refs c (Const false)
 abbrev pub differ : Bool → Bool → Bool
 differ a b = if a then not b else b
 
+-- the value of a variable: what it stands for holds of the codes, the gates and the references
 abbrev pub value_of : Parts → Var → Bool
 value_of e (X s i) = bit (code_of e s) i
 value_of e (D s t i) = differ (bit (code_of e s) i) (bit (code_of e t) i)
