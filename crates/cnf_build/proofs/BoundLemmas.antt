@@ -1,5 +1,5 @@
 -- The sizes of a template in terms of its number of literals.
-use Rattle.std.proofs.Common.{ℕ, zero, suc, ◌+◌, ◌*◌, ◌≤◌, length, List, refl, arith}
+use Rattle.std.proofs.Common.{ℕ, ◌+◌, ◌*◌, ◌≤◌, length, List, refl, arith}
 use Rattle.std.proofs.Math.Nat.{mul-le-mul_left}
 use Rattle.cpog_defs.specs.declared.types.Bit3.{Bit3}
 use Rattle.gate_template.specs.declared.types.Shape.{Shape}

@@ -29,7 +29,8 @@ fn push_further(
     requires some { 1 ≤ numbers.now.scenarios }
     requires one_each { length given.now ≡ numbers.now.scenarios }
     requires entries { All (λ pattern. length pattern ≡ numbers.now.bits) given.now }
-    ensures { OnOk result (clauses.new.clauses ≡ clauses.old.clauses ++ as_clauses numbers.now (further_clauses kind numbers.now given.now)) }
+    ensures { OnOk result (clauses.new.clauses ≡ clauses.old.clauses ++
+        as_clauses numbers.now (further_clauses kind numbers.now given.now)) }
 {
     match kind {
         Template::First => Ok(()),
@@ -58,7 +59,8 @@ fn push_template(
     requires columns { All (λ column. length column ≡ numbers.now.scenarios) columns.now }
     requires one_each { length given.now ≡ numbers.now.scenarios }
     requires patterns { All (λ pattern. length pattern ≡ numbers.now.bits) given.now }
-    ensures { OnOk result (clauses.new.clauses ≡ clauses.old.clauses ++ as_clauses numbers.now (named_template kind numbers.now given.now columns.now)) }
+    ensures { OnOk result (clauses.new.clauses ≡ clauses.old.clauses ++
+        as_clauses numbers.now (named_template kind numbers.now given.now columns.now)) }
 {
     push_codes(alloc, clauses, numbers)?;
     push_gates(alloc, clauses, numbers)?;
@@ -80,9 +82,9 @@ pub(crate) fn shape_asked(classes: &ClassList, given: &[Pattern], bits: u8, gate
     }
 }
 
-/// The formula of a template (DIMACS CNF): its variables by their places from 1, and its clauses family by family. It is
-/// satisfiable exactly where the scenarios of the classes have an encoding of so many bits and at most so many gates,
-/// which under `Third` keeps the given bits. Room for all of it is made at once.
+/// The formula of a template (DIMACS CNF): its variables by their places from 1, and its clauses family by family. By the
+/// law `template_lifts` of `gate_template` it is satisfiable exactly where the scenarios of the classes have an encoding
+/// of so many bits and at most so many gates, which under `Third` keeps the given bits. Room is made for it once.
 ///
 /// # Errors
 ///
@@ -97,8 +99,10 @@ pub fn build(
 ) -> Result<Cnf, Memory>
     requires asked { IsAsked given.now bits gates classes.now.columns }
     requires size { literals (template kind given.now bits gates classes.now.columns) ≤ TEMPLATE_LIMIT }
-    ensures variables { IfOk result (λ cnf. cnf.variables ≡ length (variables (shape_of given.now bits gates classes.now.columns))) }
-    ensures clauses { IfOk result (λ cnf. cnf.clauses.clauses ≡ template kind given.now bits gates classes.now.columns) }
+    ensures variables { IfOk result (λ cnf. cnf.variables ≡
+        length (variables (shape_of given.now bits gates classes.now.columns))) }
+    ensures clauses { IfOk result (λ cnf. cnf.clauses.clauses ≡
+        template kind given.now bits gates classes.now.columns) }
 {
     let size = template_size(kind, classes, given, bits, gates);
     let numbers = Numbers::new(shape_asked(classes, given, bits, gates));

@@ -43,9 +43,12 @@ pub fn decode(
     requires asked { IsAsked given.now bits gates classes.now.columns }
     requires size { literals (template kind given.now bits gates classes.now.columns) ≤ TEMPLATE_LIMIT }
     requires satisfies { Satisfies (by_place assignment.now) (template kind given.now bits gates classes.now.columns) }
-    ensures serves { IfOk result (λ d. IsSolution kind given.now bits classes.now.columns (parts_of d.codes.items d.gates d.refs.items)) }
+    ensures serves { IfOk result (λ d.
+        IsSolution kind given.now bits classes.now.columns (parts_of d.codes.items d.gates d.refs.items)) }
     ensures gates { IfOk result (λ d. length d.gates.gates ≡ gates) }
-    ensures first { IfOk result (λ d. IsDecoded (value_in assignment.now (shape_of given.now bits gates classes.now.columns)) (shape_of given.now bits gates classes.now.columns) (parts_of d.codes.items d.gates d.refs.items)) }
+    ensures first { IfOk result (λ d.
+        IsDecoded (value_in assignment.now (shape_of given.now bits gates classes.now.columns))
+        (shape_of given.now bits gates classes.now.columns) (parts_of d.codes.items d.gates d.refs.items)) }
 {
     let numbers = Numbers::new(shape_asked(classes, given, bits, gates));
     let codes = codes_read(alloc, &numbers, assignment)?;

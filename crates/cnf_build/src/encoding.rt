@@ -37,12 +37,15 @@ pub fn encode(
 ) -> Result<Vec<bool>, Memory>
     requires asked { IsAsked given.now decoded.now.gates.inputs gates classes.now.columns }
     requires size { literals (template kind given.now decoded.now.gates.inputs gates classes.now.columns) ≤ TEMPLATE_LIMIT }
-    requires serves { IsSolution kind given.now decoded.now.gates.inputs classes.now.columns (parts_of decoded.now.codes.items decoded.now.gates decoded.now.refs.items) }
+    requires serves { IsSolution kind given.now decoded.now.gates.inputs classes.now.columns
+        (parts_of decoded.now.codes.items decoded.now.gates decoded.now.refs.items) }
     requires zeros { HasZeros kind given.now decoded.now.gates.inputs decoded.now.codes.items }
     requires few { length decoded.now.gates.gates ≤ gates }
     requires open_columns { All (IsOpenColumn (length given.now)) classes.now.columns }
-    ensures satisfies { IfOk result (λ values. Satisfies (by_place values.items) (template kind given.now decoded.now.gates.inputs gates classes.now.columns)) }
-    ensures one_each { IfOk result (λ values. length values.items ≡ length (variables (shape_of given.now decoded.now.gates.inputs gates classes.now.columns))) }
+    ensures satisfies { IfOk result (λ values. Satisfies (by_place values.items)
+        (template kind given.now decoded.now.gates.inputs gates classes.now.columns)) }
+    ensures one_each { IfOk result (λ values. length values.items ≡
+        length (variables (shape_of given.now decoded.now.gates.inputs gates classes.now.columns))) }
 {
     let (list, refs) = normalise(alloc, &decoded.gates, &decoded.refs)?;
     // What makes it a list of gates is known once they are lent.

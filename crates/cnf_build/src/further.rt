@@ -44,7 +44,8 @@ fn push_given_of(
 ) -> Result<(), Memory>
     requires scenario { s < numbers.now.scenarios }
     requires entries { length pattern.now ≡ numbers.now.bits }
-    ensures { OnOk result (clauses.new.clauses ≡ clauses.old.clauses ++ as_clauses numbers.now (given_pattern numbers.now s pattern.now)) }
+    ensures { OnOk result (clauses.new.clauses ≡ clauses.old.clauses ++
+        as_clauses numbers.now (given_pattern numbers.now s pattern.now)) }
 {
     for i in 0..numbers.shape().bits {
         push_given_at(clauses, numbers, s, i, given_at(pattern, i as u8))?;
@@ -59,7 +60,8 @@ pub(crate) fn push_given(
 ) -> Result<(), Memory>
     requires one_each { length patterns.now ≡ numbers.now.scenarios }
     requires entries { All (λ pattern. length pattern ≡ numbers.now.bits) patterns.now }
-    ensures { OnOk result (clauses.new.clauses ≡ clauses.old.clauses ++ as_clauses numbers.now (given_clauses numbers.now patterns.now)) }
+    ensures { OnOk result (clauses.new.clauses ≡ clauses.old.clauses ++
+        as_clauses numbers.now (given_clauses numbers.now patterns.now)) }
 {
     for s in 0..numbers.shape().scenarios {
         push_given_of(clauses, numbers, s, &patterns[s as usize])?;
@@ -70,7 +72,8 @@ pub(crate) fn push_given(
 fn push_zero_at(clauses: &mut ClauseArena, numbers: &Numbers, i: u32) -> Result<(), Memory>
     requires some { 1 ≤ numbers.now.scenarios }
     requires bit { i < numbers.now.bits }
-    ensures { OnOk result (clauses.new.clauses ≡ clauses.old.clauses ++ as_clauses numbers.now ((complemented (X 0 i) ∷ []) ∷ [])) }
+    ensures { OnOk result (clauses.new.clauses ≡ clauses.old.clauses ++
+        as_clauses numbers.now ((complemented (X 0 i) ∷ []) ∷ [])) }
 {
     clauses.push(&[numbers.x(0, i).negated()])?;
     Ok(())
@@ -84,7 +87,8 @@ fn push_zero_unless(
 ) -> Result<(), Memory>
     requires some { 1 ≤ numbers.now.scenarios }
     requires bit { i < numbers.now.bits }
-    ensures { OnOk result (clauses.new.clauses ≡ clauses.old.clauses ++ as_clauses numbers.now (if given then [] else (complemented (X 0 i) ∷ []) ∷ [])) }
+    ensures { OnOk result (clauses.new.clauses ≡ clauses.old.clauses ++
+        as_clauses numbers.now (if given then [] else (complemented (X 0 i) ∷ []) ∷ [])) }
 {
     if given {
         Ok(())
@@ -95,7 +99,8 @@ fn push_zero_unless(
 
 pub(crate) fn push_all_zeros(clauses: &mut ClauseArena, numbers: &Numbers) -> Result<(), Memory>
     requires { 1 ≤ numbers.now.scenarios }
-    ensures { OnOk result (clauses.new.clauses ≡ clauses.old.clauses ++ as_clauses numbers.now (all_zero_clauses numbers.now)) }
+    ensures { OnOk result (clauses.new.clauses ≡ clauses.old.clauses ++
+        as_clauses numbers.now (all_zero_clauses numbers.now)) }
 {
     for i in 0..numbers.shape().bits {
         push_zero_at(clauses, numbers, i)?;
@@ -110,7 +115,8 @@ pub(crate) fn push_zeros(
 ) -> Result<(), Memory>
     requires some { 1 ≤ numbers.now.scenarios }
     requires entries { All (λ pattern. length pattern ≡ numbers.now.bits) patterns.now }
-    ensures { OnOk result (clauses.new.clauses ≡ clauses.old.clauses ++ as_clauses numbers.now (zero_clauses numbers.now patterns.now)) }
+    ensures { OnOk result (clauses.new.clauses ≡ clauses.old.clauses ++
+        as_clauses numbers.now (zero_clauses numbers.now patterns.now)) }
 {
     for i in 0..numbers.shape().bits {
         push_zero_unless(clauses, numbers, i, is_given_by_some(patterns, i as u8))?;

@@ -20,7 +20,8 @@ fn push_table(
     v: Lit,
     t: Lit,
 ) -> Result<(), Memory>
-    ensures { OnOk result (clauses.new.clauses ≡ clauses.old.clauses ++ (sel ∷ a ∷ b ∷ opposite v ∷ t ∷ []) ∷ (sel ∷ a ∷ b ∷ v ∷ opposite t ∷ []) ∷ []) }
+    ensures { OnOk result (clauses.new.clauses ≡ clauses.old.clauses
+        ++ (sel ∷ a ∷ b ∷ opposite v ∷ t ∷ []) ∷ (sel ∷ a ∷ b ∷ v ∷ opposite t ∷ []) ∷ []) }
 {
     clauses.push(&[sel, a, b, v.negated(), t])?;
     clauses.push(&[sel, a, b, v, t.negated()])?;
@@ -39,7 +40,8 @@ fn push_gate_at(
     requires lower { j < k }
     requires earlier { k < numbers.now.bits + g }
     requires scenario { s < numbers.now.scenarios }
-    ensures { OnOk result (clauses.new.clauses ≡ clauses.old.clauses ++ as_clauses numbers.now (gate_clauses_at numbers.now g j k s)) }
+    ensures { OnOk result (clauses.new.clauses ≡ clauses.old.clauses ++
+        as_clauses numbers.now (gate_clauses_at numbers.now g j k s)) }
 {
     let sel = numbers.sel(g, j, k).negated();
     let a = numbers.value(j, s);
@@ -64,7 +66,8 @@ fn push_gate_pair(
     requires gate { g < numbers.now.gates }
     requires lower { j < k }
     requires earlier { k < numbers.now.bits + g }
-    ensures { OnOk result (clauses.new.clauses ≡ clauses.old.clauses ++ as_clauses numbers.now (gate_pair numbers.now g j k)) }
+    ensures { OnOk result (clauses.new.clauses ≡ clauses.old.clauses ++
+        as_clauses numbers.now (gate_pair numbers.now g j k)) }
 {
     for s in 0..numbers.shape().scenarios {
         push_gate_at(clauses, numbers, g, j, k, s)?;
@@ -80,7 +83,8 @@ fn push_gate_pairs_from(
 ) -> Result<(), Memory>
     requires gate { g < numbers.now.gates }
     requires earlier { j < numbers.now.bits + g }
-    ensures { OnOk result (clauses.new.clauses ≡ clauses.old.clauses ++ as_clauses numbers.now (pairs_from (gate_pair numbers.now g) (numbers.now.bits + g) j)) }
+    ensures { OnOk result (clauses.new.clauses ≡ clauses.old.clauses ++
+        as_clauses numbers.now (pairs_from (gate_pair numbers.now g) (numbers.now.bits + g) j)) }
 {
     let signals = numbers.shape().bits + g;
     for k in j + 1..signals {
@@ -91,7 +95,9 @@ fn push_gate_pairs_from(
 
 fn push_gate_pairs(clauses: &mut ClauseArena, numbers: &Numbers, g: u32) -> Result<(), Memory>
     requires { g < numbers.now.gates }
-    ensures { OnOk result (clauses.new.clauses ≡ clauses.old.clauses ++ as_clauses numbers.now (each_below (pairs_from (gate_pair numbers.now g) (numbers.now.bits + g)) (numbers.now.bits + g))) }
+    ensures { OnOk result (clauses.new.clauses ≡ clauses.old.clauses ++
+        as_clauses numbers.now
+        (each_below (pairs_from (gate_pair numbers.now g) (numbers.now.bits + g)) (numbers.now.bits + g))) }
 {
     let signals = numbers.shape().bits + g;
     for j in 0..signals {
@@ -108,7 +114,8 @@ fn push_selections_from(
 ) -> Result<(), Memory>
     requires gate { g < numbers.now.gates }
     requires earlier { j < numbers.now.bits + g }
-    ensures { OnOk result (lits.new.items ≡ lits.old.items ++ as_clause numbers.now (pairs_from (λ j k. plain (Sel g j k) ∷ []) (numbers.now.bits + g) j)) }
+    ensures { OnOk result (lits.new.items ≡ lits.old.items ++ as_clause numbers.now (pairs_from
+        (λ j k. plain (Sel g j k) ∷ []) (numbers.now.bits + g) j)) }
 {
     let signals = numbers.shape().bits + g;
     for k in j + 1..signals {
@@ -136,7 +143,8 @@ fn push_gate(
     g: u32,
 ) -> Result<(), Memory>
     requires { g < numbers.now.gates }
-    ensures { OnOk result (clauses.new.clauses ≡ clauses.old.clauses ++ as_clauses numbers.now (one_gate numbers.now g)) }
+    ensures { OnOk result (clauses.new.clauses ≡ clauses.old.clauses ++
+        as_clauses numbers.now (one_gate numbers.now g)) }
 {
     let some = some_pair_selected(alloc, numbers, g)?;
     clauses.push(&some)?;
@@ -149,7 +157,8 @@ pub(crate) fn push_gates(
     clauses: &mut ClauseArena,
     numbers: &Numbers,
 ) -> Result<(), Memory>
-    ensures { OnOk result (clauses.new.clauses ≡ clauses.old.clauses ++ as_clauses numbers.now (gate_clauses numbers.now)) }
+    ensures { OnOk result (clauses.new.clauses ≡ clauses.old.clauses ++
+        as_clauses numbers.now (gate_clauses numbers.now)) }
 {
     for g in 0..numbers.shape().gates {
         push_gate(alloc, clauses, numbers, g)?;

@@ -56,7 +56,8 @@ pub(crate) fn codes_read(
     numbers: &Numbers,
     assignment: &[bool],
 ) -> Result<Vec<u8>, Memory>
-    ensures { IfOk result (λ codes. codes.items ≡ listed (code (value_in assignment.now numbers.now) numbers.now) numbers.now.scenarios) }
+    ensures { IfOk result (λ codes. codes.items ≡
+        listed (code (value_in assignment.now numbers.now) numbers.now) numbers.now.scenarios) }
 {
     let mut codes = Vec::new(alloc);
     for s in 0..numbers.shape().scenarios {
@@ -91,7 +92,8 @@ pub(crate) struct Pair {
 fn first_pair(numbers: &Numbers, assignment: &[bool], g: u32) -> Pair
     requires gate { g < numbers.now.gates }
     requires some { IsTrue (named_true (value_in assignment.now numbers.now) (some_pair numbers.now g)) }
-    ensures { IsFirstPair (λ j k. value_in assignment.now numbers.now (Sel g j k)) (numbers.now.bits + g) result.j result.k }
+    ensures { IsFirstPair
+        (λ j k. value_in assignment.now numbers.now (Sel g j k)) (numbers.now.bits + g) result.j result.k }
 {
     let signals = numbers.shape().bits + g;
     for j in 0..signals {
@@ -133,10 +135,12 @@ pub(crate) fn gates_read(
     numbers: &Numbers,
     assignment: &[bool],
 ) -> Result<GateList, Memory>
-    requires some { (g : ℕ) → g < numbers.now.gates → IsTrue (named_true (value_in assignment.now numbers.now) (some_pair numbers.now g)) }
+    requires some { (g : ℕ) → g < numbers.now.gates →
+        IsTrue (named_true (value_in assignment.now numbers.now) (some_pair numbers.now g)) }
     ensures inputs { IfOk result (λ list. list.inputs ≡ numbers.now.bits) }
     ensures one_each { IfOk result (λ list. length list.gates ≡ numbers.now.gates) }
-    ensures first { IfOk result (λ list. (g : ℕ) → g < numbers.now.gates → IsFirstGate (value_in assignment.now numbers.now) numbers.now g (slice_index_or list.gates g idle_gate)) }
+    ensures first { IfOk result (λ list. (g : ℕ) → g < numbers.now.gates →
+        IsFirstGate (value_in assignment.now numbers.now) numbers.now g (slice_index_or list.gates g idle_gate)) }
 {
     let shape = numbers.shape();
     let mut list = GateList::new(alloc, shape.bits as u8);
@@ -149,7 +153,8 @@ pub(crate) fn gates_read(
 /// The first signal that a class is taken from, or the number of signals.
 fn first_signal(numbers: &Numbers, assignment: &[bool], c: u32) -> u32
     requires { c < numbers.now.classes }
-    ensures { IsFirstFrom (λ n. value_in assignment.now numbers.now (O c n)) 0 (numbers.now.bits + numbers.now.gates) result }
+    ensures { IsFirstFrom
+        (λ n. value_in assignment.now numbers.now (O c n)) 0 (numbers.now.bits + numbers.now.gates) result }
 {
     let signals = numbers.shape().bits + numbers.shape().gates;
     for n in 0..signals {
@@ -177,9 +182,11 @@ pub(crate) fn refs_read(
     numbers: &Numbers,
     assignment: &[bool],
 ) -> Result<Vec<Ref>, Memory>
-    requires some { (c : ℕ) → c < numbers.now.classes → IsTrue (named_true (value_in assignment.now numbers.now) (some_signal numbers.now c)) }
+    requires some { (c : ℕ) → c < numbers.now.classes →
+        IsTrue (named_true (value_in assignment.now numbers.now) (some_signal numbers.now c)) }
     ensures one_each { IfOk result (λ refs. length refs.items ≡ numbers.now.classes) }
-    ensures first { IfOk result (λ refs. (c : ℕ) → c < numbers.now.classes → IsFirstRef (value_in assignment.now numbers.now) numbers.now c (slice_index_or refs.items c (Const false))) }
+    ensures first { IfOk result (λ refs. (c : ℕ) → c < numbers.now.classes →
+        IsFirstRef (value_in assignment.now numbers.now) numbers.now c (slice_index_or refs.items c (Const false))) }
 {
     let mut refs = Vec::new(alloc);
     for c in 0..numbers.shape().classes {

@@ -48,7 +48,8 @@ impl Row {
 /// The values of all signals on each code.
 pub(crate) fn signal_rows(alloc: Global, whole: &Whole, scenarios: u32) -> Result<Vec<Row>, Memory>
     requires { length whole.now.codes ≡ scenarios }
-    ensures { IfOk result (λ rows. rows.items ≡ listed (λ s. signal_values whole.now.gates (code_of whole.now s)) scenarios) }
+    ensures { IfOk result (λ rows. rows.items ≡ listed
+        (λ s. signal_values whole.now.gates (code_of whole.now s)) scenarios) }
 {
     let mut rows = Vec::new(alloc);
     for s in 0..scenarios {

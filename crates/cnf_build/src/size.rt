@@ -168,8 +168,7 @@ fn literals_of(t: Totals) -> u64
         + t.further
 }
 
-/// How many variables, clauses and literals a template has: what these classes, patterns and gates ask for. It says this
-/// before anything is made, and takes no memory.
+/// How many variables, clauses and literals a template has. It says so before anything is made, and takes no memory.
 pub fn template_size(
     kind: Template,
     classes: &ClassList,

@@ -115,7 +115,8 @@ fn clauses_come_family_by_family(rt: HostRuntime) {
 fn first_solution(alloc: Global, list: &ClassList, given: &[Pattern]) -> Result<Decoded, CodesFault>
     requires few { length given.now ≤ 4 }
     requires columns { All (IsOpenColumn (length given.now)) list.now.columns }
-    ensures { IfOk result (λ d. IsSolution First given.now 2 list.now.columns (parts_of d.codes.items d.gates d.refs.items)) }
+    ensures { IfOk result
+        (λ d. IsSolution First given.now 2 list.now.columns (parts_of d.codes.items d.gates d.refs.items)) }
 {
     let codes = least_codes(alloc, given, 2)?;
     match first_encode(alloc, list.columns(), &codes, 2) {
@@ -138,7 +139,8 @@ fn there_and_back(
 ) -> Result<Decoded, Memory>
     requires asked { IsAsked given.now 2 gates list.now.columns }
     requires size { literals (template First given.now 2 gates list.now.columns) ≤ TEMPLATE_LIMIT }
-    requires solution { IsSolution First given.now 2 list.now.columns (parts_of solution.now.codes.items solution.now.gates solution.now.refs.items) }
+    requires solution { IsSolution First given.now 2 list.now.columns
+        (parts_of solution.now.codes.items solution.now.gates solution.now.refs.items) }
     requires few { length solution.now.gates.gates ≤ gates }
     requires columns { All (IsOpenColumn (length given.now)) list.now.columns }
 {
@@ -154,8 +156,8 @@ fn signal(number: u32, negated: bool) -> Ref {
     Ref::Signal { number, negated }
 }
 
-/// Each of four scenarios takes a gate that is 1 on its code alone. What comes back is normal, so the gate of the code 0
-/// is complemented, and an idle gate makes them five.
+/// Each of four scenarios takes a gate that is 1 on its code alone. What comes back is normal, so the gate of the code
+/// 0 is complemented, and an idle gate makes them five.
 #[test]
 fn a_solution_comes_back_normal(rt: HostRuntime) {
     let list = classes_of(rt.alloc(), 4).expect(&rt, "there is memory");

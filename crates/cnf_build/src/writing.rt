@@ -18,7 +18,8 @@ use std::alloc::Global;
 fn push_code(values: &mut Vec<bool>, whole: &Whole, shape: Shape, s: u32) -> Result<(), Memory>
     requires fits { IsWhole shape whole.now }
     requires scenario { s < shape.scenarios }
-    ensures { OnOk result (values.new.items ≡ values.old.items ++ map (value_of whole.now) (each_below (λ i. X s i ∷ []) shape.bits)) }
+    ensures { OnOk result (values.new.items ≡ values.old.items ++ map (value_of whole.now) (each_below
+        (λ i. X s i ∷ []) shape.bits)) }
 {
     for i in 0..shape.bits {
         values.push(whole.x(s, i))?;
@@ -48,7 +49,8 @@ fn push_d_pair(
     requires fits { IsWhole shape whole.now }
     requires first { s < shape.scenarios }
     requires second { t < shape.scenarios }
-    ensures { OnOk result (values.new.items ≡ values.old.items ++ map (value_of whole.now) (each_below (λ i. D s t i ∷ []) shape.bits)) }
+    ensures { OnOk result (values.new.items ≡ values.old.items ++ map (value_of whole.now) (each_below
+        (λ i. D s t i ∷ []) shape.bits)) }
 {
     for i in 0..shape.bits {
         values.push(whole.d(s, t, i))?;
@@ -60,7 +62,8 @@ fn push_d_pair(
 fn push_d_from(values: &mut Vec<bool>, whole: &Whole, shape: Shape, s: u32) -> Result<(), Memory>
     requires fits { IsWhole shape whole.now }
     requires scenario { s < shape.scenarios }
-    ensures { OnOk result (values.new.items ≡ values.old.items ++ map (value_of whole.now) (pairs_from (λ s t. each_below (λ i. D s t i ∷ []) shape.bits) shape.scenarios s)) }
+    ensures { OnOk result (values.new.items ≡ values.old.items ++ map (value_of whole.now) (pairs_from
+        (λ s t. each_below (λ i. D s t i ∷ []) shape.bits) shape.scenarios s)) }
 {
     let scenarios = shape.scenarios;
     for t in s + 1..scenarios {
@@ -91,7 +94,8 @@ fn push_sel_from(
     requires fits { IsWhole shape whole.now }
     requires gate { g < shape.gates }
     requires earlier { j < shape.bits + g }
-    ensures { OnOk result (values.new.items ≡ values.old.items ++ map (value_of whole.now) (pairs_from (λ j k. Sel g j k ∷ []) (shape.bits + g) j)) }
+    ensures { OnOk result (values.new.items ≡ values.old.items ++ map (value_of whole.now) (pairs_from
+        (λ j k. Sel g j k ∷ []) (shape.bits + g) j)) }
 {
     let signals = shape.bits + g;
     for k in j + 1..signals {
@@ -104,7 +108,8 @@ fn push_sel_from(
 fn push_sel_of(values: &mut Vec<bool>, whole: &Whole, shape: Shape, g: u32) -> Result<(), Memory>
     requires fits { IsWhole shape whole.now }
     requires gate { g < shape.gates }
-    ensures { OnOk result (values.new.items ≡ values.old.items ++ map (value_of whole.now) (each_pair (λ j k. Sel g j k ∷ []) (shape.bits + g))) }
+    ensures { OnOk result (values.new.items ≡ values.old.items ++ map (value_of whole.now) (each_pair
+        (λ j k. Sel g j k ∷ []) (shape.bits + g))) }
 {
     let signals = shape.bits + g;
     for j in 0..signals {
@@ -128,7 +133,8 @@ fn push_sel(values: &mut Vec<bool>, whole: &Whole, shape: Shape) -> Result<(), M
 fn push_table_of(values: &mut Vec<bool>, whole: &Whole, shape: Shape, g: u32) -> Result<(), Memory>
     requires fits { IsWhole shape whole.now }
     requires gate { g < shape.gates }
-    ensures { OnOk result (values.new.items ≡ values.old.items ++ map (value_of whole.now) (T g 1 ∷ T g 2 ∷ T g 3 ∷ [])) }
+    ensures { OnOk result (values.new.items ≡ values.old.items
+        ++ map (value_of whole.now) (T g 1 ∷ T g 2 ∷ T g 3 ∷ [])) }
 {
     values.push(whole.t(g, 1))?;
     values.push(whole.t(g, 2))?;
@@ -169,7 +175,8 @@ fn push_v_of(
     requires fits { IsWhole shape whole.now }
     requires rows { rows.now ≡ listed (λ s. signal_values whole.now.gates (code_of whole.now s)) shape.scenarios }
     requires gate { g < shape.gates }
-    ensures { OnOk result (values.new.items ≡ values.old.items ++ map (value_of whole.now) (each_below (λ s. V g s ∷ []) shape.scenarios)) }
+    ensures { OnOk result (values.new.items ≡ values.old.items ++ map (value_of whole.now) (each_below
+        (λ s. V g s ∷ []) shape.scenarios)) }
 {
     for s in 0..shape.scenarios {
         values.push(gate_signal_value(whole, rows, shape, g, s))?;
@@ -193,7 +200,8 @@ fn push_v(values: &mut Vec<bool>, whole: &Whole, rows: &[Row], shape: Shape) -> 
 fn push_o_of(values: &mut Vec<bool>, whole: &Whole, shape: Shape, c: u32) -> Result<(), Memory>
     requires fits { IsWhole shape whole.now }
     requires class { c < shape.classes }
-    ensures { OnOk result (values.new.items ≡ values.old.items ++ map (value_of whole.now) (each_below (λ n. O c n ∷ []) (shape.bits + shape.gates))) }
+    ensures { OnOk result (values.new.items ≡ values.old.items ++ map (value_of whole.now) (each_below
+        (λ n. O c n ∷ []) (shape.bits + shape.gates))) }
 {
     for n in 0..shape.bits + shape.gates {
         values.push(whole.o(c, n))?;

@@ -30,7 +30,8 @@ fn are_apart(columns: &[Column], t: u32, c: u32) -> bool
 fn is_apart_from(columns: &[Column], taken: &[u32], c: u32) -> bool
     requires column { c < length columns.now }
     requires taken { All (λ t. t < length columns.now) taken.now }
-    ensures { IsTrue result ↔ ((t : ℕ) → Contains taken.now t → AreIncompatible (column_of columns.now t) (column_of columns.now c)) }
+    ensures { IsTrue result ↔ ((t : ℕ) → Contains taken.now t →
+        AreIncompatible (column_of columns.now t) (column_of columns.now c)) }
 {
     for k in 0..taken.len() {
         if !are_apart(columns, taken[k], c) {

@@ -33,12 +33,14 @@ new_flag Normal flags g = gate_value g.table (flag_at flags g.j) (flag_at flags 
 
 -- the value of the gate over complemented signals, complemented itself by its own flag
 abbrev pub new_value : Form → List Bool → Gate → Bool → Bool → Bool
-new_value form flags g p q = flipped (new_flag form flags g) (gate_value g.table (flipped (flag_at flags g.j) p) (flipped (flag_at flags g.k) q))
+new_value form flags g p q =
+    flipped (new_flag form flags g) (gate_value g.table (flipped (flag_at flags g.j) p) (flipped (flag_at flags g.k) q))
 
 -- the table of these values
 unfoldable pub new_table : Form → List Bool → Gate → ℕ
 new_table form flags g =
-    table_with (new_value form flags g false false) (new_value form flags g false true) (new_value form flags g true false) (new_value form flags g true true)
+    table_with (new_value form flags g false false) (new_value form flags g false true)
+    (new_value form flags g true false) (new_value form flags g true true)
 
 -- the gate with this table, which reads the same signals
 abbrev pub new_gate : Form → List Bool → Gate → Gate
@@ -90,12 +92,15 @@ ReadTheSame gates others = ⊥
 abbrev pub DifferBy : ℕ → ℕ → ℕ → ℕ → Type 0
 DifferBy bits mask word other = (i : ℕ) → i < bits → bit other i ≡ flipped (bit mask i) (bit word i)
 
--- gates that read the same signals, and gates and references whose values on each word are the old ones on the word that differs by the mask
+-- gates that read the same signals, and gates and references whose values on each word are the old ones on the word that
+-- differs by the mask
 pub record IsFlipped (mask : ℕ) (before : GateList) (refs : List Ref) (after : GateList) (new : List Ref) : Type 0 where
   pub inputs : after.inputs ≡ before.inputs
   pub reads : ReadTheSame before.gates after.gates
   pub one_each : length new ≡ length refs
   pub over : All (IsRefOver (signal_count after)) new
   pub gates : (word other g : ℕ) → DifferBy before.inputs mask word other → g < length before.gates →
-      slice_index_or (signal_values after other) (before.inputs + g) false ≡ slice_index_or (signal_values before word) (before.inputs + g) false
-  pub values : (word other : ℕ) → DifferBy before.inputs mask word other → map (ref_value (signal_values after other)) new ≡ map (ref_value (signal_values before word)) refs
+      slice_index_or (signal_values after other) (before.inputs + g) false
+      ≡ slice_index_or (signal_values before word) (before.inputs + g) false
+  pub values : (word other : ℕ) → DifferBy before.inputs mask word other →
+      map (ref_value (signal_values after other)) new ≡ map (ref_value (signal_values before word)) refs

@@ -58,7 +58,8 @@ pub(crate) fn push_gates_under(
 ) -> Result<(), Memory>
     requires empty { list.old ≡ record gates.now { gates = take 0 gates.now.gates } }
     requires one_each { length flags.old.items ≡ gates.now.inputs }
-    ensures gates { OnOk result (list.new ≡ record gates.now { gates = new_gates form flags.old.items gates.now.gates }) }
+    ensures gates { OnOk result (list.new ≡
+        record gates.now { gates = new_gates form flags.old.items gates.now.gates }) }
     ensures flags { OnOk result (flags.new.items ≡ new_flags form flags.old.items gates.now.gates) }
 {
     let all = gates.gates();

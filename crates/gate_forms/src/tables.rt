@@ -35,7 +35,11 @@ fn flipped_value(table: u8, j: bool, k: bool, flag: bool, p: bool, q: bool) -> b
 
 /// The table over complemented signals, complemented itself.
 pub(crate) fn flipped_table(table: u8, j: bool, k: bool, flag: bool) -> u8
-    ensures { result ≡ table_with (flipped flag (gate_value table (flipped j false) (flipped k false))) (flipped flag (gate_value table (flipped j false) (flipped k true))) (flipped flag (gate_value table (flipped j true) (flipped k false))) (flipped flag (gate_value table (flipped j true) (flipped k true))) }
+    ensures { result ≡ table_with
+        (flipped flag (gate_value table (flipped j false) (flipped k false)))
+        (flipped flag (gate_value table (flipped j false) (flipped k true)))
+        (flipped flag (gate_value table (flipped j true) (flipped k false)))
+        (flipped flag (gate_value table (flipped j true) (flipped k true))) }
 {
     table_of(
         flipped_value(table, j, k, flag, false, false),

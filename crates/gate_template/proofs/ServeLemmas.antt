@@ -1,14 +1,13 @@
 -- What serves the classes of a template satisfies it, once its gates are normal and as many as the template has.
-use Rattle.std.proofs.Common.{◌≡◌, ◌≢◌, ℕ, zero, suc, ◌+◌, ◌^◌, ◌<◌, ◌≤◌, ◌==◌, Bool, true, false, IsTrue, List, [], ◌∷◌, ◌++◌, map, length, slice_index_or, slice_get, Some, get_or, All, refl, sym, ap, ◌∙◌, subst, inl, inr, arith, drop}
-use Rattle.std.specs.List.{list_any}
-use Rattle.std.proofs.lemmas.Bool.{both_ways, cases_Bool, cases_lt}
+use Rattle.std.proofs.Common.{◌≡◌, ℕ, zero, suc, ◌+◌, ◌^◌, ◌<◌, ◌≤◌, ◌==◌, Bool, true, false, List, [], ◌∷◌, ◌++◌, map, length, slice_index_or, slice_get, Some, get_or, All, refl, sym, ap, ◌∙◌, subst, inl, inr, arith, drop}
+use Rattle.std.proofs.lemmas.Bool.{cases_Bool, cases_lt}
 use Rattle.std.proofs.lemmas.Bool.Decides.{nat_tests}
 use Rattle.std.proofs.lemmas.Nat.Bits.{same_from_bits_below, bit_at-lt}
 use Rattle.std.proofs.lemmas.List.{get_or_past}
 use Rattle.std.proofs.lemmas.List.Elements.{All-get_or}
 use Rattle.std.proofs.lemmas.Option.{slice_get_within, slice_get-get_or, get_or_from_slice_get}
 use Rattle.cpog_defs.specs.declared.types.Bit3.{Bit3}
-use Rattle.cpog_defs.specs.declared.types.Bit3.TheVariants.{Zero, One, Free}
+use Rattle.cpog_defs.specs.declared.types.Bit3.TheVariants.{Free}
 use Rattle.cpog_defs.specs.declared.types.Ref.{Ref}
 use Rattle.cpog_defs.specs.declared.types.Ref.TheVariants.{Const, Signal}
 use Rattle.cpog_defs.specs.Codes.{bit, open_patterns}
@@ -16,7 +15,6 @@ use Rattle.cpog_defs.specs.Entries.{Agrees, entry_at}
 use Rattle.cpog_defs.specs.Gates.{GateList, IsGateList, signal_count, signal_values, ref_value, IsRefOver}
 use Rattle.cpog_defs.specs.Columns.{column}
 use Rattle.cpog_defs.specs.Encodings.{RefAgrees}
-use Rattle.cpog_base.specs.Column.{is_zero}
 use Rattle.gate_core.specs.Columns.{IsOpenColumn}
 use Rattle.cpog_base.specs.BitLaws.{bit-zero}
 use Rattle.gate_core.proofs.GateLemmas.{input-signal, gate-signal, gate_reads}

@@ -94,6 +94,9 @@ literal_count kind z patterns columns =
 
 -- a template has so many variables, clauses and literals
 pub record IsCounted (kind : Template) (patterns : List (List Bit3)) (bits gates : ℕ) (columns : List (List Bit3)) : Type 0 where
-  pub variables_are : length (variables (shape_of patterns bits gates columns)) ≡ variable_count (shape_of patterns bits gates columns)
-  pub clauses_are : length (template kind patterns bits gates columns) ≡ clause_count kind (shape_of patterns bits gates columns) patterns columns
-  pub literals_are : literals (template kind patterns bits gates columns) ≡ literal_count kind (shape_of patterns bits gates columns) patterns columns
+  pub variables_are :
+      length (variables (shape_of patterns bits gates columns)) ≡ variable_count (shape_of patterns bits gates columns)
+  pub clauses_are :
+      length (template kind patterns bits gates columns) ≡ clause_count kind (shape_of patterns bits gates columns) patterns columns
+  pub literals_are :
+      literals (template kind patterns bits gates columns) ≡ literal_count kind (shape_of patterns bits gates columns) patterns columns

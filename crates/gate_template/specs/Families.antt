@@ -94,9 +94,13 @@ gate_clauses z = each_below (one_gate z) z.gates
 abbrev pub class_clauses_at : Shape → ℕ → ℕ → ℕ → Bit3 → List (List NamedLiteral)
 class_clauses_at z c n s Free = []
 class_clauses_at z c n s One =
-    (complemented (O c n) ∷ plain (value_var z n s) ∷ plain (P c) ∷ []) ∷ (complemented (O c n) ∷ complemented (value_var z n s) ∷ complemented (P c) ∷ []) ∷ []
+    (complemented (O c n) ∷ plain (value_var z n s) ∷ plain (P c) ∷ [])
+    ∷ (complemented (O c n) ∷ complemented (value_var z n s) ∷ complemented (P c) ∷ [])
+    ∷ []
 class_clauses_at z c n s Zero =
-    (complemented (O c n) ∷ complemented (value_var z n s) ∷ plain (P c) ∷ []) ∷ (complemented (O c n) ∷ plain (value_var z n s) ∷ complemented (P c) ∷ []) ∷ []
+    (complemented (O c n) ∷ complemented (value_var z n s) ∷ plain (P c) ∷ [])
+    ∷ (complemented (O c n) ∷ plain (value_var z n s) ∷ complemented (P c) ∷ [])
+    ∷ []
 
 -- where class c is taken from signal n, its value in each scenario is as the column asks
 abbrev pub class_signal : Shape → ℕ → List Bit3 → ℕ → List (List NamedLiteral)

@@ -30,12 +30,14 @@ TemplateLifts =
     (kind : Template) (orders : List Order) (patterns : List (List Bit3)) (t : Columns) (list : Classes) (bits gates : ℕ) →
     All (IsOrderOf (count_of orders)) orders → AreColumnsOf orders t → AreClassesOf t list → 1 ≤ length orders →
     2 ≤ bits → ArePatterns bits (length orders) patterns →
-    IsSatisfiable (template kind patterns bits gates list.columns) ↔ HasEncodingWithin (count_of orders) orders (kept_patterns kind patterns) bits gates
+    IsSatisfiable (template kind patterns bits gates list.columns)
+    ↔ HasEncodingWithin (count_of orders) orders (kept_patterns kind patterns) bits gates
 
 -- the second template is the third one with every bit open
 abbrev pub SecondIsThirdWithOpenBits : Type 0
 SecondIsThirdWithOpenBits =
-    (n bits gates : ℕ) (columns : List (List Bit3)) → template Second (open_patterns n) bits gates columns ≡ template Third (open_patterns n) bits gates columns
+    (n bits gates : ℕ) (columns : List (List Bit3)) →
+    template Second (open_patterns n) bits gates columns ≡ template Third (open_patterns n) bits gates columns
 
 -- the variable of each literal of a template is one of the template's
 abbrev pub TemplateIsWithin : Type 0

@@ -11,7 +11,12 @@ use Rattle.gate_template.specs.Families.{NamedLiteral, as_clauses, code_clauses,
 
 -- a template of these patterns, one for each scenario, over so many bits, gates and these columns of classes
 abbrev pub shape_of : List (List Bit3) → ℕ → ℕ → List (List Bit3) → Shape
-shape_of patterns bits gates columns = record { scenarios = length patterns; bits = bits; gates = gates; classes = length columns }
+shape_of patterns bits gates columns = record {
+  scenarios = length patterns;
+  bits = bits;
+  gates = gates;
+  classes = length columns;
+}
 
 -- what each template adds to the first
 abbrev pub further_clauses : Template → Shape → List (List Bit3) → List (List NamedLiteral)
@@ -21,11 +26,13 @@ further_clauses Third z patterns = given_clauses z patterns ++ zero_clauses z pa
 
 -- the clauses of a template by name: distinct codes, gates, classes, and what it adds to the first
 abbrev pub named_template : Template → Shape → List (List Bit3) → List (List Bit3) → List (List NamedLiteral)
-named_template kind z patterns columns = code_clauses z ++ (gate_clauses z ++ (class_clauses z columns ++ further_clauses kind z patterns))
+named_template kind z patterns columns =
+    code_clauses z ++ (gate_clauses z ++ (class_clauses z columns ++ further_clauses kind z patterns))
 
 -- the clauses of a template, in order
 abbrev pub template : Template → List (List Bit3) → ℕ → ℕ → List (List Bit3) → List Clause
-template kind patterns bits gates columns = let z = shape_of patterns bits gates columns in as_clauses z (named_template kind z patterns columns)
+template kind patterns bits gates columns =
+    let z = shape_of patterns bits gates columns in as_clauses z (named_template kind z patterns columns)
 
 -- the given bits that a template keeps: all, or none
 abbrev pub kept_patterns : Template → List (List Bit3) → List (List Bit3)
