@@ -44,7 +44,7 @@ asked_zero Zero b h ok = ok
 asked_zero One b h ok = absurd (both_ways _ refl h)
 asked_zero Free b h ok = absurd (both_ways _ refl h)
 
-no_constant : (gates : GateList) (codes : List ℕ) (column : List Bit3) (ref : Ref) → IsOpenColumn (length column) column → length codes ≡ length column → RefAgrees gates codes column ref → IsSignal ref
+pub no_constant : (gates : GateList) (codes : List ℕ) (column : List Bit3) (ref : Ref) → IsOpenColumn (length column) column → length codes ≡ length column → RefAgrees gates codes column ref → IsSignal ref
 no_constant gates codes column (Signal n negated) o size ok = tt
 no_constant gates codes column (Const b) o size ok =
     let one = some_where is_one column o.some_one in

@@ -13,3 +13,6 @@ pub mod ClassLemmas
 pub mod ListedLemmas
 pub mod ConverseLemmas
 pub mod SameLemmas
+pub mod CountLemmas
+pub mod TakenLemmas
+pub mod AloneLemmas

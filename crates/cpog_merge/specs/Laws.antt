@@ -16,6 +16,8 @@ use Rattle.cpog_merge.specs.Classes.{Classes, ServesAs, belongs_at, BelongsTo, A
 use Rattle.cpog_merge.specs.ByClass.{signed_ref, ref_by, IsGraphByClass, graph_by_class, IsSignal}
 use Rattle.gate_core.specs.Columns.{IsOpenColumn, smaller_set}
 use Rattle.gate_core.specs.Serving.{ReferencesServe}
+use Rattle.gate_core.specs.Bounds.{IsLowerBound}
+use Rattle.cpog_merge.specs.Incompatible.{IsCountEvidence, IsIncompatibleSet, place_at}
 
 -- For all codes, gates and every conditional graph: the encoding fits the orders exactly where each condition has, on
 -- each scenario's code, the value of each defined entry of its column.
@@ -91,3 +93,19 @@ abbrev pub JoiningIsBounded : Type 0
 JoiningIsBounded =
     (orders : List Order) (t : Columns) (list : Classes) → All (IsOrderOf (count_of orders)) orders → count_of orders ≤ OPERATION_LIMIT → length orders ≤ SCENARIO_LIMIT →
     AreColumnsOf orders t → AreClassesOf t list → sum_by (λ column. smaller_set column - 1) list.columns ≤ 63488
+
+-- Places whose columns are pairwise incompatible deny each encoding that has fewer gates than they are, less the bits of a code.
+abbrev pub CountBounds : Type 0
+CountBounds =
+    (orders : List Order) (patterns : List (List Bit3)) (operations bits : ℕ) (places : List Place) → All (IsOrderOf operations) orders →
+    IsCountEvidence operations orders places → IsLowerBound operations orders patterns bits (length places - bits)
+
+-- the places of the classes that are taken in order, each where it is incompatible with all before it, are such places
+abbrev pub IncompatibleSetsAreEvidence : Type 0
+IncompatibleSetsAreEvidence =
+    (orders : List Order) (t : Columns) (list : Classes) (taken : List ℕ) → AreColumnsOf orders t → AreClassesOf t list →
+    IsIncompatibleSet list.columns taken → IsCountEvidence (count_of orders) orders (map (place_at list) taken)
+
+-- columns have one such set
+abbrev pub IncompatibleSetsAreOne : Type 0
+IncompatibleSetsAreOne = (columns : List (List Bit3)) (a b : List ℕ) → IsIncompatibleSet columns a → IsIncompatibleSet columns b → a ≡ b

@@ -3,4 +3,5 @@ pub mod Laws
 pub mod Columns
 pub mod Classes
 pub mod ByClass
+pub mod Incompatible
 pub mod Opens

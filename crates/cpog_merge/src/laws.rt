@@ -1,6 +1,6 @@
 //! What columns and their classes tell of encodings.
 
-ghost use Rattle.cpog_merge.specs.Laws.{FitsIsAgreeing, FitsIsFittingScenarios, ServedAgree, BelongsToOne, ClassesAreOne, SameColumnsSameClasses, ClassesAreOpen, ReferencesStay, GraphByClassAgrees, GraphServesClasses, GraphByClassIsGraph, OneGraphByClass, SmallerSetsAreFew, JoiningIsBounded};
+ghost use Rattle.cpog_merge.specs.Laws.{FitsIsAgreeing, FitsIsFittingScenarios, ServedAgree, BelongsToOne, ClassesAreOne, SameColumnsSameClasses, ClassesAreOpen, ReferencesStay, GraphByClassAgrees, GraphServesClasses, GraphByClassIsGraph, OneGraphByClass, SmallerSetsAreFew, JoiningIsBounded, CountBounds, IncompatibleSetsAreEvidence, IncompatibleSetsAreOne};
 
 /// An encoding fits orders exactly where each of its conditions has, on each code, the value of its column's entry
 /// (Mokhov and Yakovlev 2010: the encoding constraints of a conditional partial order graph).
@@ -74,4 +74,20 @@ pub fn smaller_sets_are_few()
 /// the members of each set.
 pub fn joining_is_bounded()
     ensures { JoiningIsBounded }
+{}
+
+/// Places whose columns are pairwise incompatible need a signal each, and a signal is a code bit or a gate. So no encoding
+/// has fewer gates than these places are, less the bits.
+pub fn count_bounds()
+    ensures { CountBounds }
+{}
+
+/// The places of the classes that `incompatible_set` takes have open and pairwise incompatible columns.
+pub fn incompatible_sets_are_evidence()
+    ensures { IncompatibleSetsAreEvidence }
+{}
+
+/// Columns have one set that is taken so.
+pub fn incompatible_sets_are_one()
+    ensures { IncompatibleSetsAreOne }
 {}

@@ -1,0 +1,16 @@
+pub mod Rows
+pub mod ClauseLemmas
+pub mod NumberLemmas
+pub mod DecodeLemmas
+pub mod EncodeLemmas
+pub mod ListedLemmas
+pub mod LiftLemmas
+pub mod ServeLemmas
+pub mod FromEncodingLemmas
+pub mod OpenLemmas
+pub mod PlaceLemmas
+pub mod CountLemmas
+pub mod SizeLemmas
+pub mod CountedLemmas
+pub mod WithinLemmas
+pub mod BothWaysLemmas

@@ -1,0 +1,29 @@
+//! What is promised of templates.
+
+ghost use Rattle.gate_template.specs.Laws.{TemplateLifts, SecondIsThirdWithOpenBits, TemplateIsWithin, TemplateIsCounted, VariablesAreFew};
+
+/// A template is satisfiable exactly where the scenarios have an encoding of at most so many gates (Mokhov and Yakovlev
+/// 2010: the encoding of scenarios as a search for satisfying assignments), whatever the number of the template.
+pub fn template_lifts()
+    ensures { TemplateLifts }
+{}
+
+/// The second template is the third one with every bit open.
+pub fn second_is_third_with_open_bits()
+    ensures { SecondIsThirdWithOpenBits }
+{}
+
+/// The variable of each literal of a template is one of the template's.
+pub fn template_is_within()
+    ensures { TemplateIsWithin }
+{}
+
+/// How many variables, clauses and literals a template has.
+pub fn template_is_counted()
+    ensures { TemplateIsCounted }
+{}
+
+/// A template of open columns has no more variables than literals.
+pub fn variables_are_few()
+    ensures { VariablesAreFew }
+{}
