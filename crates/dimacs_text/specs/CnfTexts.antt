@@ -1,0 +1,27 @@
+-- What the readers of formulas answer.
+use Rattle.std.specs.Prelude.{◌≡◌, ℕ, ◌+◌, ◌<◌, ◌≤◌, List, [], ◌∷◌, ◌++◌, length, Result, Ok, Err}
+use Rattle.clause_arena.specs.Clauses.{Clause}
+use Rattle.clause_arena.specs.declared.cnf.Cnf.{Cnf}
+use Rattle.cpog_base.specs.declared.limits.TheConstants.{VARIABLE_LIMIT}
+use Rattle.text_rows.specs.Lines.{free_lines}
+use Rattle.text_rows.specs.FirstBad.{IsFirstBad}
+use Rattle.dimacs_text.specs.declared.cnf.CnfFault.{CnfFault}
+use Rattle.dimacs_text.specs.declared.cnf.CnfFault.TheVariants as faults
+use Rattle.dimacs_text.specs.declared.cnf.Front.{Front}
+use Rattle.dimacs_text.specs.Formulas.{SpellsFormula}
+use Rattle.dimacs_text.specs.Texts.{IsFormulaText, IsJoinedText, IsFront}
+
+-- the lines up to the `p` line; a bad line is the first of a formula, and of a formula with a log
+abbrev pub IsFrontRead : List (List ℕ) → Result Front CnfFault → Type 0
+IsFrontRead lines (Ok x) = (front : List (List ℕ)) × (line : List ℕ) × IsFront front line x.header.variables x.header.clauses × (lines ≡ front ++ line ∷ free_lines x.rest.now) × (x.lines ≡ length front + 1)
+IsFrontRead lines (Err (faults.BadLine n)) = IsFirstBad IsFormulaText lines n × IsFirstBad IsJoinedText lines n
+IsFrontRead lines (Err faults.Limit) = ⊥
+IsFrontRead lines (Err faults.Memory) = ⊥
+
+-- Ok is the formula that the lines spell, and no other; Limit says that they spell one of more variables; a bad line is the first
+abbrev pub IsCnfRead : List (List ℕ) → Result Cnf CnfFault → Type 0
+IsCnfRead lines (Ok formula) = SpellsFormula lines formula.variables formula.clauses.clauses × (formula.variables ≤ VARIABLE_LIMIT)
+    × ((variables : ℕ) (clauses : List Clause) → SpellsFormula lines variables clauses → (variables ≡ formula.variables) × (clauses ≡ formula.clauses.clauses))
+IsCnfRead lines (Err (faults.BadLine n)) = IsFirstBad IsFormulaText lines n
+IsCnfRead lines (Err faults.Limit) = (variables : ℕ) × (clauses : List Clause) × SpellsFormula lines variables clauses × (VARIABLE_LIMIT < variables)
+IsCnfRead lines (Err faults.Memory) = Unit {0}
