@@ -88,10 +88,10 @@ pub formula_found : (front : List (List ℕ)) (p : List ℕ) (v count : ℕ) (ls
 formula_found front p v count ls cs f hc n e =
     spells_before front (p ∷ ls) v cs f.passed (rw f.header (f.few_variables, omega (arith, n, f.few), f.words ∙ ap (header_words v) (sym n), hc, e))
 
-behind_front : (front : List (List ℕ)) (p : List ℕ) (good tail : List (List ℕ)) → (front ++ p ∷ good) ++ tail ≡ front ++ p ∷ (good ++ tail)
+pub behind_front : (front : List (List ℕ)) (p : List ℕ) (good tail : List (List ℕ)) → (front ++ p ∷ good) ++ tail ≡ front ++ p ∷ (good ++ tail)
 behind_front front p good tail = append_assoc front (p ∷ good) tail
 
-good_begins : (front : List (List ℕ)) (p : List ℕ) (v count : ℕ) (good : List (List ℕ)) (ds : List Clause) (os : Clause) → IsFront front p v count → IsGood v count good ds os → (more : List (List ℕ)) × IsFormulaText ((front ++ p ∷ good) ++ more)
+pub good_begins : (front : List (List ℕ)) (p : List ℕ) (v count : ℕ) (good : List (List ℕ)) (ds : List Clause) (os : Clause) → IsFront front p v count → IsGood v count good ds os → (more : List (List ℕ)) × IsFormulaText ((front ++ p ∷ good) ++ more)
 good_begins front p v count good ds os f g =
     let c = completed v count good ds os g in
     (c.0, (v, c.1, subst (λ (ls : List (List ℕ)). SpellsFormula ls v c.1) (sym (behind_front front p good c.0)) (formula_found front p v count (good ++ c.0) c.1 f c.2 c.3 c.4)))
@@ -108,19 +108,12 @@ line_first front p v count n all good l after ds os f e k g none = record {
       none tail t.1 b.0 b.1 (ap (flat_map body_words) (append_assoc good (l ∷ []) tail) ∙ b.2);
 }
 
--- the end, where a clause is open or wanting
-pub end_first : (front : List (List ℕ)) (p : List ℕ) (v count n : ℕ) → v < 10000000000 → (all good : List (List ℕ)) (ds : List Clause) (os : Clause) → IsFront front p v count → all ≡ front ++ p ∷ good → n ≡ length front + 1 + length good + 1 → IsGood v count good ds os → (length ds ≡ count → os ≡ [] → ⊥) → IsFirstBad IsFormulaText all n
-end_first front p v count n small all good ds os f e k g wanting = record {
-  good = front ++ p ∷ good;
-  after = [];
-  parts = e ∙ sym (append-nil (front ++ p ∷ good));
-  number = omega (arith, k, length-append front (p ∷ good));
-  begins = good_begins front p v count good ds os f g;
-  none = λ t.
-      let b = formula_behind front p v count good t.0 t.1 f t.2 in
-      let r = whole_told v small ds t.1 (map lit_word os ++ []) (clauses_within v ds g.within) b.0 (sym g.read ∙ b.2) in
-      left os r.0 (omega (arith, r.2, b.1)) r.3 (lits_within v os g.open_within) r.1 wanting;
-}
+-- a clause is open or wanting
+pub not_whole : (front : List (List ℕ)) (p : List ℕ) (v count : ℕ) (good : List (List ℕ)) (ds : List Clause) (os : Clause) → IsFront front p v count → IsGood v count good ds os → (length ds ≡ count → os ≡ [] → ⊥) → IsFormulaText (front ++ p ∷ good) → ⊥
+not_whole front p v count good ds os f g wanting t =
+    let b = formula_behind front p v count good t.0 t.1 f t.2 in
+    let r = whole_told v f.few_variables ds t.1 (map lit_word os ++ []) (clauses_within v ds g.within) b.0 (sym g.read ∙ b.2) in
+    left os r.0 (omega (arith, r.2, b.1)) r.3 (lits_within v os g.open_within) r.1 wanting
   where
     nothing : (xs ys t : Words) → xs ≡ ys ++ (decimal 0 ∷ t) → xs ≡ [] → ⊥
     nothing xs [] t h z = absurd cc
@@ -129,8 +122,19 @@ end_first front p v count n small all good ds os f e k g wanting = record {
     left [] [] n h wo wr w = w (omega (arith, n)) refl
     left (l ∷ o) [] n h wo wr w = absurd cc
     left o (c ∷ rest) n h wo wr w =
-        let t = told lit_word (IsLitWithin v) (lits_tell v small) o c [] (clauses_words rest) wo wr.0 (h ∙ append_assoc (map lit_word c) (decimal 0 ∷ []) (clauses_words rest)) in
+        let t = told lit_word (IsLitWithin v) (lits_tell v f.few_variables) o c [] (clauses_words rest) wo wr.0 (h ∙ append_assoc (map lit_word c) (decimal 0 ∷ []) (clauses_words rest)) in
         nothing [] (map lit_word t.0) (clauses_words rest) t.2 refl
+
+-- the end, where a clause is open or wanting
+pub end_first : (front : List (List ℕ)) (p : List ℕ) (v count n : ℕ) (all good : List (List ℕ)) (ds : List Clause) (os : Clause) → IsFront front p v count → all ≡ front ++ p ∷ good → n ≡ length front + 1 + length good + 1 → IsGood v count good ds os → (length ds ≡ count → os ≡ [] → ⊥) → IsFirstBad IsFormulaText all n
+end_first front p v count n all good ds os f e k g wanting = record {
+  good = front ++ p ∷ good;
+  after = [];
+  parts = e ∙ sym (append-nil (front ++ p ∷ good));
+  number = omega (arith, k, length-append front (p ∷ good));
+  begins = good_begins front p v count good ds os f g;
+  none = not_whole front p v count good ds os f g wanting;
+}
 
 pub whole_found : (front : List (List ℕ)) (p : List ℕ) (v count : ℕ) (all good : List (List ℕ)) (ds : List Clause) (os : Clause) → IsFront front p v count → all ≡ front ++ p ∷ good → IsGood v count good ds os → length ds ≡ count → os ≡ [] → SpellsFormula all v ds
 whole_found front p v count all good ds os f e g n none =

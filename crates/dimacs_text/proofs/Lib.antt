@@ -5,3 +5,4 @@ pub mod BodyLemmas
 pub mod FrontLemmas
 pub mod CnfLemmas
 pub mod JoinedLemmas
+pub mod JoinedReadLemmas

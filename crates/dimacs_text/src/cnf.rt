@@ -5,12 +5,13 @@ ghost use Rattle.text_rows.specs.Words.{tokens};
 ghost use Rattle.dimacs_text.specs.Formulas.{body_words, header_words};
 ghost use Rattle.dimacs_text.specs.Keeping.{Holds, IsFor, IsTaken};
 ghost use Rattle.dimacs_text.specs.Bodies.{IsBodyRead};
-ghost use Rattle.dimacs_text.specs.CnfTexts.{IsFrontRead, IsCnfRead};
+ghost use Rattle.dimacs_text.specs.CnfTexts.{IsFrontRead, IsCnfRead, fault_of, IsJoinedRead};
 
 use crate::body::Body;
-use crate::log::is_passed;
+use crate::log::{LogFault, is_passed, read_log_after};
 use clause_arena::Cnf;
 use cpog_base::{LONG_INPUT_LIMIT, Memory};
+use proof_check::Log;
 use std::alloc::Global;
 use text_rows::{after_word, is_blank, next_free_line, number, signed};
 
@@ -203,5 +204,54 @@ pub fn read_cnf(alloc: Global, bytes: &[u8]) -> Result<Cnf, CnfFault>
             clauses,
         }),
         None => Err(CnfFault::Limit),
+    }
+}
+
+/// A fault of the log, as one of the whole text.
+fn joined_fault(fault: LogFault) -> CnfFault
+    ensures { result ≡ fault_of fault }
+{
+    match fault {
+        LogFault::BadLine(line) => CnfFault::BadLine(line),
+        LogFault::Memory => CnfFault::Memory,
+    }
+}
+
+/// A formula, and behind the line `lrat` the log of a refutation of it, as `cpog lrat` reads them. Lines are counted over the
+/// whole text.
+///
+/// # Errors
+///
+/// `BadLine` with the first bad line of the text, `Limit` where the formula is good and has more than 16777216 variables
+/// (the log is not read then), and `Memory` where none is left.
+pub fn read_joined(alloc: Global, bytes: &[u8]) -> Result<(Cnf, Log), CnfFault>
+    requires { length bytes.now ≤ LONG_INPUT_LIMIT }
+    ensures { IsJoinedRead (free_lines bytes.now) result }
+{
+    let front = match read_front(bytes) {
+        Ok(front) => front,
+        Err(fault) => return Err(fault),
+    };
+    let mut body = Body::new(alloc, front.header.variables);
+    let end = match read_body(front.rest, front.lines, front.header, &mut body) {
+        Ok(end) => end,
+        Err(fault) => return Err(fault),
+    };
+    let rest = match end.rest {
+        Some(rest) => rest,
+        None => return Err(CnfFault::BadLine(end.lines + 1)),
+    };
+    if !body.is_whole(front.header.clauses) {
+        return Err(CnfFault::BadLine(end.lines));
+    }
+    let clauses = match body.into_clauses() {
+        Some(clauses) => clauses,
+        None => return Err(CnfFault::Limit),
+    };
+    let variables = front.header.variables as u32;
+    let count = clauses.len();
+    match read_log_after(alloc, rest, variables, count, end.lines) {
+        Ok(log) => Ok((Cnf { variables, clauses }, log)),
+        Err(fault) => Err(joined_fault(fault)),
     }
 }

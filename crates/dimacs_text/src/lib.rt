@@ -5,5 +5,5 @@ mod body;
 mod cnf;
 mod log;
 
-pub use cnf::{CnfFault, read_cnf};
+pub use cnf::{CnfFault, read_cnf, read_joined};
 pub use log::{LogFault, read_log};

@@ -31,7 +31,7 @@ returns-then-not-is_whole c =
     let all = free_lines c.args.bytes.now in
     let b = c.in-Ok-read_body.ensures.body in
     let at = rw c.in-None.is at b.5 in
-    end_first f.0 f.1 head.variables head.clauses _ f.2.few_variables all b.0 b.1 b.2 f.2 (f.3 ∙ ap (λ (t : List (List ℕ)). f.0 ++ f.1 ∷ t) at.0) (omega (arith, at.1, f.4)) b.4
+    end_first f.0 f.1 head.variables head.clauses _ all b.0 b.1 b.2 f.2 (f.3 ∙ ap (λ (t : List (List ℕ)). f.0 ++ f.1 ∷ t) at.0) (omega (arith, at.1, f.4)) b.4
       (λ n o. false≢true (sym c.if-not-is_whole.true ∙ (c.is_whole.ensures b.1 b.2 b.3).1 (n, o)))
 
 pub overflow_cast-result : goal.overflow_cast-result
