@@ -1,0 +1,9 @@
+pub mod Logs
+pub mod Entries
+pub mod LogTexts
+pub mod Formulas
+pub mod Streams
+pub mod Keeping
+pub mod Texts
+pub mod Bodies
+pub mod CnfTexts

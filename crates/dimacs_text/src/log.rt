@@ -1,0 +1,202 @@
+//! The text of a log.
+ghost use Rattle.std.specs.Prelude.{◌≡◌, ◌+◌, ◌<◌, ◌≤◌, ◌^◌, ◌∷◌, ◌++◌, [], ℕ, Bool, true, false, MatchOption, IfOk, IfErr, length, map, List};
+ghost use Rattle.std.specs.Fmt.{decimal};
+ghost use Rattle.text_rows.specs.Words.{tokens};
+ghost use Rattle.dimacs_text.specs.Logs.{ended, lit_word, LitsWithin, AreIds, SpellsLine};
+ghost use Rattle.dimacs_text.specs.Entries.{IsEntry};
+ghost use Rattle.text_rows.specs.Lines.{free_lines};
+ghost use Rattle.dimacs_text.specs.LogTexts.{StepBad, StepTo, IsLogRead};
+ghost use Rattle.dimacs_text.specs.Logs as logs;
+ghost use Rattle.clause_arena.specs.Clauses.{Clause};
+ghost use Rattle.proof_check.specs.Lines.{Line, last_id};
+
+use clause_arena::Lit;
+use cpog_base::Memory;
+use proof_check::Log;
+use std::alloc::Global;
+use text_rows::{after_word, is_blank, next_free_line, number, signed};
+
+/// What is wrong with a log's text.
+#[derive(Clone, Copy, Debug, PartialEq, Eq)]
+pub enum LogFault {
+    BadLine(u32),
+    Memory,
+}
+
+impl From<Memory> for LogFault {
+    fn from(_error: Memory) -> LogFault {
+        LogFault::Memory
+    }
+}
+
+/// A line of a log: its numbers are kept beside it.
+#[derive(Clone, Copy)]
+enum Entry {
+    Add(u32),
+    Del,
+    Bad,
+}
+
+/// The ids up to `0`, and what follows it.
+fn read_ids<'a>(words: &'a [u8], ids: &mut Vec<u32>) -> Result<Option<&'a [u8]>, Memory>
+    ensures { IfOk result (λ o. MatchOption o ((ns : List ℕ) (ws : List (List ℕ)) → AreIds ns → tokens words.now ≡ ended (map decimal ns) ++ ws → ⊥) (λ x. AreIds ids.new.items × (tokens words.now ≡ ended (map decimal ids.new.items) ++ tokens x.now))) }
+{
+    ids.clear();
+    let mut rest = words;
+    while let Some((n, after)) = number(rest) {
+        rest = after;
+        if n == 0 {
+            return Ok(Some(rest));
+        }
+        if n > u32::MAX as u64 {
+            return Ok(None);
+        }
+        ids.push(n as u32)?;
+    }
+    Ok(None)
+}
+
+/// The literals up to `0`, and what follows it.
+fn read_lits<'a>(words: &'a [u8], variables: u32, lits: &mut Vec<Lit>) -> Result<Option<&'a [u8]>, Memory>
+    requires { variables < 2 ^ 31 }
+    ensures { IfOk result (λ o. MatchOption o ((ls : Clause) (ws : List (List ℕ)) → LitsWithin variables ls → tokens words.now ≡ ended (map lit_word ls) ++ ws → ⊥) (λ x. LitsWithin variables lits.new.items × (tokens words.now ≡ ended (map lit_word lits.new.items) ++ tokens x.now))) }
+{
+    lits.clear();
+    let mut rest = words;
+    while let Some((negated, n, after)) = signed(rest) {
+        rest = after;
+        if n == 0 {
+            return Ok(Some(rest));
+        }
+        if n > variables as u64 {
+            return Ok(None);
+        }
+        lits.push(Lit::from_var(n as u32, negated))?;
+    }
+    Ok(None)
+}
+
+/// What a line of a log is, behind additions of which the last has this id.
+fn read_entry(
+    line: &[u8],
+    variables: u32,
+    last: u32,
+    lits: &mut Vec<Lit>,
+    hints: &mut Vec<u32>,
+) -> Result<Entry, Memory>
+    requires { variables < 2 ^ 31 }
+    ensures { IfOk result (IsEntry variables last (tokens line.now) lits.new.items hints.new.items) }
+{
+    let Some((id, rest)) = number(line) else {
+        return Ok(Entry::Bad);
+    };
+    if id == 0 {
+        return Ok(Entry::Bad);
+    }
+    if id > u32::MAX as u64 {
+        return Ok(Entry::Bad);
+    }
+    if let Some(words) = after_word(rest, b"d") {
+        let Some(end) = read_ids(words, hints)? else {
+            return Ok(Entry::Bad);
+        };
+        if !is_blank(end) {
+            return Ok(Entry::Bad);
+        }
+        return Ok(Entry::Del);
+    }
+    if id <= last as u64 {
+        return Ok(Entry::Bad);
+    }
+    let Some(words) = read_lits(rest, variables, lits)? else {
+        return Ok(Entry::Bad);
+    };
+    let Some(end) = read_ids(words, hints)? else {
+        return Ok(Entry::Bad);
+    };
+    if !is_blank(end) {
+        return Ok(Entry::Bad);
+    }
+    Ok(Entry::Add(id as u32))
+}
+
+/// Whether a line is a comment or blank.
+pub fn is_passed(line: &[u8]) -> bool
+    ensures { result ≡ logs.is_passed line.now }
+{
+    if let [b'c', ..] = line {
+        return true;
+    }
+    is_blank(line)
+}
+
+/// Reads a line into the log: the id of the last addition behind it, or none where the line may not stand.
+fn read_line(
+    log: &mut Log,
+    line: &[u8],
+    variables: u32,
+    last: u32,
+    lits: &mut Vec<Lit>,
+    hints: &mut Vec<u32>,
+) -> Result<Option<u32>, Memory>
+    requires small { variables < 2 ^ 31 }
+    requires last { last_id log.old.first log.old.lines ≡ last }
+    ensures first { log.new.first ≡ log.old.first }
+    ensures step { IfOk result (λ o. MatchOption o (StepBad variables last line.now) (λ next. StepTo variables last line.now log.old.lines log.new.lines next × (last_id log.new.first log.new.lines ≡ next))) }
+{
+    if is_passed(line) {
+        return Ok(Some(last));
+    }
+    match read_entry(line, variables, last, lits, hints)? {
+        Entry::Bad => Ok(None),
+        Entry::Add(id) => {
+            log.push_add(id, lits, hints)?;
+            Ok(Some(id))
+        }
+        Entry::Del => {
+            log.push_del(hints)?;
+            Ok(Some(last))
+        }
+    }
+}
+
+/// A log, behind so many lines of another text.
+pub fn read_log_after(
+    alloc: Global,
+    bytes: &[u8],
+    variables: u32,
+    clauses: u32,
+    before: u32,
+) -> Result<Log, LogFault>
+    requires size { length bytes.now + before ≤ 536870912 }
+    requires small { variables < 2 ^ 31 }
+    ensures { IsLogRead variables clauses (free_lines bytes.now) before result }
+{
+    let mut log = Log::new(alloc, clauses);
+    let mut lits = Vec::new(alloc);
+    let mut hints = Vec::new(alloc);
+    let mut rest = bytes;
+    let mut number = before;
+    let mut last = clauses;
+    while let Some((line, after)) = next_free_line(rest) {
+        rest = after;
+        number += 1;
+        let Ok(step) = read_line(&mut log, line, variables, last, &mut lits, &mut hints) else {
+            return Err(LogFault::Memory);
+        };
+        let Some(next) = step else {
+            return Err(LogFault::BadLine(number));
+        };
+        last = next;
+    }
+    Ok(log)
+}
+
+/// A log.
+pub fn read_log(alloc: Global, bytes: &[u8], variables: u32, clauses: u32) -> Result<Log, LogFault>
+    requires size { length bytes.now ≤ 536870912 }
+    requires small { variables ≤ 16777216 }
+    ensures { IsLogRead variables clauses (free_lines bytes.now) 0 result }
+{
+    read_log_after(alloc, bytes, variables, clauses, 0)
+}

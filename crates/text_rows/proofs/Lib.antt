@@ -1,0 +1,4 @@
+pub mod Numbers
+pub mod TokenSplits
+pub mod PlainLemmas
+pub mod LineLemmas
