@@ -6,3 +6,4 @@ pub mod FrontLemmas
 pub mod CnfLemmas
 pub mod JoinedLemmas
 pub mod JoinedReadLemmas
+pub mod WritingLemmas

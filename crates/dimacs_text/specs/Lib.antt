@@ -7,3 +7,4 @@ pub mod Keeping
 pub mod Texts
 pub mod Bodies
 pub mod CnfTexts
+pub mod Writing

@@ -4,6 +4,8 @@
 mod body;
 mod cnf;
 mod log;
+mod writing;
 
 pub use cnf::{CnfFault, read_cnf, read_joined};
 pub use log::{LogFault, read_log};
+pub use writing::{write_cnf, write_log};

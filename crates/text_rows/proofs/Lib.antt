@@ -2,3 +2,4 @@ pub mod Numbers
 pub mod TokenSplits
 pub mod PlainLemmas
 pub mod LineLemmas
+pub mod WritingLemmas

@@ -1,5 +1,5 @@
 -- The words of a line with free spacing.
-use Rattle.std.specs.Prelude.{◌≡◌, ℕ, Bool, true, false, ◌||◌, ◌==◌, List, [], ◌∷◌, if◌then◌else◌}
+use Rattle.std.specs.Prelude.{◌≡◌, ℕ, Bool, true, false, ◌||◌, ◌==◌, ◌<◌, List, [], ◌∷◌, ◌++◌, length, if◌then◌else◌}
 use Rattle.std.specs.List.{AllByRecursion, slice_split}
 use Rattle.std.specs.Fmt.{decimal}
 
@@ -29,3 +29,13 @@ EndsWord (b ∷ bs) = is_space b ≡ true
 -- a number, behind a minus where it is negated
 abbrev pub signed_word : Bool → ℕ → List ℕ
 signed_word negated n = if negated then 45 ∷ decimal n else decimal n
+
+-- words with one blank between each two
+abbrev pub spaced : List (List ℕ) → List ℕ
+spaced [] = []
+spaced (w ∷ []) = w
+spaced (w ∷ x ∷ words) = w ++ 32 ∷ spaced (x ∷ words)
+
+-- bytes that are read as one word: there are some, and each is above the blank
+abbrev pub IsWord : List ℕ → Type 0
+IsWord word = (0 < length word) × AllByRecursion (λ b. 32 < b) word

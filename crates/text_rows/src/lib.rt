@@ -6,8 +6,10 @@
 //! names no format. Below it stand `line_text` and the kit's `memchr`.
 #![tactic(auto)]
 
+mod laws;
 mod lines;
 mod words;
 
+pub use laws::{lines_are_read, words_are_read};
 pub use lines::next_free_line;
 pub use words::{after_word, is_blank, number, signed};
