@@ -18,11 +18,12 @@ use Rattle.cpog_app.specs.declared.words.Command.TheVariants as command
 use Rattle.cpog_app.specs.Words.{command_of}
 use Rattle.cpog_app.specs.Refusal.{refusal_text, At}
 use Rattle.cpog_app.specs.Refusals.{IsBadLineAnswer, IsPassedAnswer}
-use Rattle.cpog_app.specs.Answers.{IsSynthAnswer, IsNormalAnswer}
+use Rattle.cpog_app.specs.Answers.{IsSynthAnswer, IsNormalAnswer, IsCnfAnswer}
 use Rattle.cpog_app.specs.Allowed.{IsAnswerOfFile, IsGraphTextAnswer, Input, IsAnswerToAll, IsLongAnswer, IsReadingAnswer, IsCommandAnswer, IsWordsAnswer, IsAllowed, Ends}
 use Rattle.cpog_app.specs.Complete.{SpellFile, AreGoodFor, IsGoodRun, RunsAreComplete}
 use Rattle.cpog_app.specs.Laws.{AllowedAgree}
 use Rattle.cpog_app.proofs.Causes.{Cause, Agree, IsOne, AreApart, either, one_at, one_either}
+use Rattle.cpog_app.proofs.FormulaAgreement.{cnf_answers_agree, cnf_is_ok}
 use Rattle.cpog_app.proofs.FileAgreement.{synth_answers_agree, normal_answers_agree, synth_is_ok, normal_is_ok}
 
 -- ---- one answer to a text
@@ -123,6 +124,8 @@ module _ (told : List ℕ) (a b : Input) (p : a.left ≡ Some told) (q : b.left 
   command_answers_agree : (c : Command) (s t : Status) (x y : List ℕ) → s ≢ status.ReadFault → t ≢ status.ReadFault → IsCommandAnswer c a s x → IsCommandAnswer c b t y → Agree s x t y
   command_answers_agree (command.Synth options) s t x y m n h k = readings_agree INPUT_LIMIT (IsGraphTextAnswer (IsSynthAnswer options)) (graph_text_answers_agree (IsSynthAnswer options) (synth_answers_agree options)) s t x y m n h k
   command_answers_agree command.Normal s t x y m n h k = readings_agree INPUT_LIMIT (IsGraphTextAnswer IsNormalAnswer) (graph_text_answers_agree IsNormalAnswer normal_answers_agree) s t x y m n h k
+  command_answers_agree (command.Cnf options) s t x y m n h k =
+      readings_agree INPUT_LIMIT (IsGraphTextAnswer (IsCnfAnswer options)) (graph_text_answers_agree (IsCnfAnswer options) (cnf_answers_agree options)) s t x y m n h k
 
   -- so have words
   words_answers_agree : (c : Option Command) (s t : Status) (x y : List ℕ) → s ≢ status.ReadFault → t ≢ status.ReadFault → IsWordsAnswer c a s x → IsWordsAnswer c b t y → Agree s x t y
@@ -153,6 +156,7 @@ module _ (OfFile : Contents → Cause) (Good : Contents → Type 0) (is_ok : (f 
 command_is_ok : (c : Command) (told : List ℕ) → AreGoodFor c told → (input : Input) → input.left ≡ Some told → (s : Status) (x : List ℕ) → s ≢ status.ReadFault → IsCommandAnswer c input s x → s ≡ status.Ok
 command_is_ok (command.Synth options) told good = reading_is_ok (IsSynthAnswer options) _ (synth_is_ok options) told good
 command_is_ok command.Normal told good = reading_is_ok IsNormalAnswer _ normal_is_ok told good
+command_is_ok (command.Cnf options) told good = reading_is_ok (IsCnfAnswer options) _ (cnf_is_ok options) told good
 
 module _ (words : List (List ℕ)) (told : List ℕ) (input : Input) (left : input.left ≡ Some told) (good : IsGoodRun words told) where
   allowed_is_ok : (s : Status) (x : List ℕ) → s ≢ status.ReadFault → IsAllowed words input s x → s ≡ status.Ok

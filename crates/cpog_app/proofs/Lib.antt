@@ -4,6 +4,7 @@ pub mod DenotingLemmas
 pub mod FileNames
 pub mod ArcLemmas
 pub mod BitLemmas
+pub mod WordLemmas
 pub mod PatternLemmas
 pub mod ReportLemmas
 pub mod PrintedLemmas
@@ -12,4 +13,7 @@ pub mod ReportAgreement
 pub mod Causes
 pub mod RefusalLemmas
 pub mod FileAgreement
+pub mod FormulaLemmas
+pub mod FormulaAgreement
+pub mod EndingLemmas
 pub mod AgreeLemmas

@@ -1,5 +1,5 @@
 -- The refusals of a file, out of what is known of it.
-use Rattle.std.proofs.Common.{◌≡◌, ℕ, ◌<◌, ◌≤◌, List, [], ◌∷◌, map, length, slice_get, Some, refl, sym, ap, ◌∙◌, arith}
+use Rattle.std.proofs.Common.{◌≡◌, ◌≢◌, ℕ, ◌<◌, ◌≤◌, List, [], ◌∷◌, map, length, slice_get, Some, refl, sym, ap, ◌∙◌, arith}
 use Rattle.std.specs.Prelude.{IsSomeAnd, Result, Ok, Err, IfErr}
 use Rattle.std.proofs.lemmas.List.{length-map}
 use Rattle.std.proofs.lemmas.Option.{slice_get_within}
@@ -57,6 +57,11 @@ some_there (x ∷ xs) h = omega arith
 -- a file with names of scenarios has orders
 pub some_orders : (f : Contents) (orders : List Order) → AreOrdersIn f orders → (scenario_names_of f ≡ [] → ⊥) → 1 ≤ length orders
 some_orders f orders z some = omega (arith, some_there (scenario_names_of f) some, names_each f orders z)
+
+-- orders are of scenarios that are stated
+pub some_stated : (f : Contents) (orders : List Order) → AreOrdersIn f orders → 1 ≤ length orders → stated_in f ≢ []
+some_stated f orders z some none =
+    absurd (omega (arith, some, names_each f orders z, length-map (stated_in f) (λ (x : Stated). x.name), ap length none))
 
 -- ---- a parameter that is left open
 

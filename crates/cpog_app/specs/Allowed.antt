@@ -15,7 +15,7 @@ use Rattle.cpog_app.specs.declared.words.Command.TheVariants as command
 use Rattle.cpog_app.specs.Words.{command_of}
 use Rattle.cpog_app.specs.Refusal.{refusal_text, At}
 use Rattle.cpog_app.specs.Refusals.{IsTextRefusal}
-use Rattle.cpog_app.specs.Answers.{IsSynthAnswer, IsNormalAnswer}
+use Rattle.cpog_app.specs.Answers.{IsSynthAnswer, IsNormalAnswer, IsCnfAnswer}
 
 -- ---- what is printed for a graph text
 
@@ -75,6 +75,7 @@ pub record IsUsageAnswer (input : Input) (output : List ℕ) : Type 0 where
 abbrev pub IsCommandAnswer : Command → Input → Status → List ℕ → Type 0
 IsCommandAnswer (command.Synth options) = IsReadingAnswer INPUT_LIMIT (IsGraphTextAnswer (IsSynthAnswer options))
 IsCommandAnswer command.Normal = IsReadingAnswer INPUT_LIMIT (IsGraphTextAnswer IsNormalAnswer)
+IsCommandAnswer (command.Cnf options) = IsReadingAnswer INPUT_LIMIT (IsGraphTextAnswer (IsCnfAnswer options))
 
 abbrev pub IsWordsAnswer : Option Command → Input → Status → List ℕ → Type 0
 IsWordsAnswer None input = At status.Usage (IsUsageAnswer input)

@@ -9,8 +9,10 @@ use Rattle.pg_normal.specs.Normals.{AreNormalsOf}
 use Rattle.pg_normal.specs.Listing.{normal_text}
 use Rattle.report_text.specs.Report.{ReportValue}
 use Rattle.report_text.specs.Rows.{report_lines}
+use Rattle.cpog_app.specs.declared.words.CnfOptions.{CnfOptions}
 use Rattle.cpog_app.specs.declared.words.SynthOptions.{SynthOptions}
-use Rattle.cpog_app.specs.Bits.{synth_length}
+use Rattle.cpog_app.specs.Bits.{synth_length, cnf_length}
+use Rattle.cpog_app.specs.Formula.{IsLargeAnswer, IsFormulaAnswer}
 use Rattle.cpog_app.specs.Refusal.{At}
 use Rattle.cpog_app.specs.Refusals.{IsNamesRefusal, IsEncodingRefusal}
 use Rattle.cpog_app.specs.Synthesis.{IsSynthesis}
@@ -38,3 +40,11 @@ pub record IsReportAnswer (options : SynthOptions) (f : Contents) (output : List
 
 abbrev pub IsSynthAnswer : SynthOptions → Contents → Status → List ℕ → Type 0
 IsSynthAnswer options f s output = IsEncodingRefusal (synth_length options) f s output ⊎ At status.Ok (IsReportAnswer options f) s output
+
+-- ---- `cnf`
+
+-- the formula that asks for an encoding of its scenarios, where it isn't too large
+abbrev pub IsCnfAnswer : CnfOptions → Contents → Status → List ℕ → Type 0
+IsCnfAnswer options f s output =
+    IsEncodingRefusal (cnf_length options) f s output
+    ⊎ (At status.Limit (IsLargeAnswer options f) s output ⊎ At status.Ok (IsFormulaAnswer options f) s output)

@@ -1,6 +1,8 @@
 -- Runs that are refused for no cause, and in which no end fails.
 use Rattle.std.specs.Prelude.{◌≡◌, ◌≢◌, ◌⊎◌, List, [], ℕ, ◌≤◌, ◌^◌, length, Option, Some}
-use Rattle.cpog_base.specs.declared.limits.TheConstants.{INPUT_LIMIT}
+use Rattle.cpog_base.specs.declared.limits.TheConstants.{INPUT_LIMIT, TEMPLATE_LIMIT}
+use Rattle.clause_arena.specs.Arenas.{literals}
+use Rattle.cpog_merge.specs.Classes.{Classes}
 use Rattle.cpog_base.specs.declared.status.Status.{Status}
 use Rattle.cpog_base.specs.declared.status.Status.TheVariants as status
 use Rattle.cpog_defs.specs.Orders.{Order}
@@ -12,7 +14,9 @@ use Rattle.cpog_app.specs.declared.words.Command.{Command}
 use Rattle.cpog_app.specs.declared.words.Command.TheVariants as command
 use Rattle.cpog_app.specs.Words.{command_of}
 use Rattle.cpog_app.specs.declared.encodable.CodeLength.{CodeLength}
-use Rattle.cpog_app.specs.Bits.{synth_length, IsBits}
+use Rattle.cpog_app.specs.Bits.{synth_length, cnf_length, IsBits}
+use Rattle.cpog_app.specs.declared.words.CnfOptions.{CnfOptions}
+use Rattle.cpog_app.specs.Formula.{AreClassesIn, open_template}
 use Rattle.pg_normal.specs.Denoting.{stated_in}
 use Rattle.cpog_app.specs.Ordered.{AreOrdersIn}
 use Rattle.scenario_check.specs.Equals.{AreDifferent}
@@ -36,10 +40,17 @@ pub record SpellFile (OfFile : Contents → Type 0) (bytes : List ℕ) : Type 0 
   pub is_file : IsFileOf bytes file
   pub holds : OfFile file
 
+-- the scenarios can be encoded, and the formula that asks for it isn't too large
+pub record CanBeAsked (options : CnfOptions) (f : Contents) : Type 0 where
+  pub encoded : CanBeEncoded (cnf_length options) f
+  pub few : (scenarios bits : ℕ) (classes : Classes) → AreClassesIn options f scenarios bits classes →
+      literals (open_template scenarios bits options.gates classes) ≤ TEMPLATE_LIMIT
+
 -- bytes that a command refuses for no cause
 abbrev pub AreGoodFor : Command → List ℕ → Type 0
 AreGoodFor (command.Synth options) = SpellFile (CanBeEncoded (synth_length options))
 AreGoodFor command.Normal = SpellFile (λ f. name_faults f ≡ [])
+AreGoodFor (command.Cnf options) = SpellFile (CanBeAsked options)
 
 -- the words name a command, which refuses the bytes for no cause
 pub record IsGoodRun (words : List (List ℕ)) (bytes : List ℕ) : Type 0 where

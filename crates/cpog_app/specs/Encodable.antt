@@ -19,5 +19,6 @@ pub record IsEncodable (asked : CodeLength) (f : Contents) (e : Encodable) : Typ
   pub different : AreDifferent e.orders.items
   pub bits : IsBits asked (length e.orders.items) e.bits
   pub some_bit : 1 ≤ e.bits
+  pub least : asked.least ≤ e.bits
   pub few_bits : e.bits ≤ BIT_LIMIT
   pub enough : length e.orders.items ≤ 2 ^ e.bits

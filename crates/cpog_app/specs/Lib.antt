@@ -3,6 +3,7 @@ pub mod Bits
 pub mod Refusal
 pub mod Ordered
 pub mod Synthesis
+pub mod Formula
 pub mod Printed
 pub mod Refusals
 pub mod Encodable

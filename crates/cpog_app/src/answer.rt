@@ -6,6 +6,7 @@ ghost use Rattle.cpog_app.specs.Bits.{MayBeNamed};
 ghost use Rattle.cpog_app.specs.Allowed.{IsReadRefusal, IsCommandAnswer, IsAllowed};
 ghost use Rattle.cpog_app.specs.Stops.{IsStop};
 
+use crate::cnf::answer_cnf;
 use crate::normal::answer_normal;
 use crate::refusal::Refusal;
 use crate::stop::{Answer, Stop, refuse};
@@ -63,6 +64,10 @@ fn answer_command<S: Source>(
         Command::Normal => {
             let bytes = read_input(alloc, source, INPUT_LIMIT)?;
             answer_normal(alloc, &bytes)
+        }
+        Command::Cnf { options } => {
+            let bytes = read_input(alloc, source, INPUT_LIMIT)?;
+            answer_cnf(alloc, options, &bytes)
         }
     }
 }

@@ -111,6 +111,7 @@ fn bits_for(asked: CodeLength, scenarios: u8) -> u8
     requires few { scenarios ≤ SCENARIO_LIMIT }
     ensures bits { IsBits asked scenarios result }
     ensures some { 1 ≤ result }
+    ensures least { asked.least ≤ result }
     ensures few { result ≤ BIT_LIMIT }
 {
     match asked.said {
@@ -136,6 +137,7 @@ fn code_bits(alloc: Global, asked: CodeLength, file: &File, orders: &[Order]) ->
     requires few { length orders.now ≤ SCENARIO_LIMIT }
     ensures bits { IfOk result (IsBits asked (length orders.now)) }
     ensures some { IfOk result (λ bits. 1 ≤ bits) }
+    ensures least { IfOk result (λ bits. asked.least ≤ bits) }
     ensures few { IfOk result (λ bits. bits ≤ BIT_LIMIT) }
     ensures enough { IfOk result (λ bits. length orders.now ≤ 2 ^ bits) }
     ensures err { IfErr result (IsStop (At status.Limit (IsManyAnswer asked file.now))) }

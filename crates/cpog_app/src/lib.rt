@@ -5,6 +5,7 @@
 #![tactic(auto)]
 
 mod answer;
+mod cnf;
 mod encodable;
 mod graph_text;
 mod laws;
@@ -20,4 +21,4 @@ mod words;
 pub use laws::{allowed_answers_agree, runs_are_complete};
 pub use refusal::{Refusal, refusal_line};
 pub use run::run_cpog;
-pub use words::{Command, SynthOptions, read_words};
+pub use words::{CNF_GATE_LIMIT, CnfOptions, Command, SaidOptions, SynthOptions, read_words};

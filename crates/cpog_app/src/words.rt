@@ -1,9 +1,14 @@
-//! The words of the command line. A command stands first, and its options behind it, in any order and each at most once.
-ghost use Rattle.std.specs.Prelude.{◌≡◌, map, option_and_then};
+//! The words of the command line. A command stands first, its number behind it, and then its options in any order, each at
+//! most once and with its value as the next word.
+ghost use Rattle.std.specs.Prelude.{◌≡◌, ◌<◌, ◌≤◌, map, option_and_then};
 ghost use Rattle.std.specs.String.{string_bytes};
-ghost use Rattle.cpog_app.specs.Words.{bits_in, bits_alone, joined, settled, options_in, command_of};
+ghost use Rattle.cpog_app.specs.Words.{number_within, bits_in, bits_alone, joined, settled, options_in, cnf_of, command_of};
 
-use cpog_base::DEFAULT_BUDGET;
+use cpog_base::{BIT_LIMIT, DEFAULT_BUDGET};
+use text_rows::whole_number;
+
+/// The most gates that `cnf` may be asked for.
+pub const CNF_GATE_LIMIT: u32 = 4096;
 
 /// How a report is to be made.
 #[derive(Clone, Copy, Debug, PartialEq, Eq)]
@@ -12,6 +17,15 @@ pub struct SynthOptions {
     pub bits: Option<u8>,
     /// How many numbers the search may write to a log, from 1 to 8388608.
     pub budget: u32,
+}
+
+/// Which formula is to be made.
+#[derive(Clone, Copy, Debug, PartialEq, Eq)]
+pub struct CnfOptions {
+    /// The number of gates, from 0 to 4096.
+    pub gates: u32,
+    /// The number of code bits, from 2 to 8; or else the fewest that give each scenario a code of its own.
+    pub bits: Option<u8>,
 }
 
 /// The options that words say, each at most once.
@@ -28,16 +42,30 @@ pub enum Command {
     Synth { options: SynthOptions },
     /// Print the normal forms of the graph text that is read.
     Normal,
+    /// Print the formula that asks for an encoding of the graph text that is read.
+    Cnf { options: CnfOptions },
 }
 
-/// The number of code bits that a word says: one digit from 1 to 8.
+/// The number that a word says in decimal digits, without a sign and without a leading zero, where it is in this range.
+fn number_within(word: &str, least: u32, most: u32) -> Option<u32>
+    ensures { result ≡ number_within least most word.now }
+{
+    let number = whole_number(word.as_bytes())?;
+    if number < u64::from(least) {
+        return None;
+    }
+    if number > u64::from(most) {
+        return None;
+    }
+    Some(number as u32)
+}
+
+/// The number of code bits that a word says.
 fn bits_in(word: &str) -> Option<u8>
     ensures { result ≡ bits_in word.now }
 {
-    match word.as_bytes() {
-        [digit @ b'1'..=b'8'] => Some(*digit - b'0'),
-        _ => None,
-    }
+    let bits = number_within(word, 1, u32::from(BIT_LIMIT))?;
+    Some(bits as u8)
 }
 
 impl SaidOptions {
@@ -77,6 +105,20 @@ fn options_after(said: SaidOptions, words: &[String]) -> Option<SaidOptions>
     }
 }
 
+/// The command `cnf` over so many gates with these options: codes have two bits at least.
+fn cnf_of(gates: u32, said: SaidOptions) -> Option<Command>
+    ensures { result ≡ cnf_of gates said }
+{
+    if said.bits == Some(1) {
+        return None;
+    }
+    let options = CnfOptions {
+        gates,
+        bits: said.bits,
+    };
+    Some(Command::Cnf { options })
+}
+
 /// The command that the words name, without the program's name. There is none where they are outside the usage line.
 pub fn read_words(words: &[String]) -> Option<Command>
     ensures { result ≡ command_of (map string_bytes words.now) }
@@ -87,6 +129,11 @@ pub fn read_words(words: &[String]) -> Option<Command>
             let said = options_after(SaidOptions { bits: None }, options)?;
             let options = said.settled();
             Some(Command::Synth { options })
+        }
+        [word, gates, options @ ..] if word.as_str() == "cnf" => {
+            let gates = number_within(gates.as_str(), 0, CNF_GATE_LIMIT)?;
+            let said = options_after(SaidOptions { bits: None }, options)?;
+            cnf_of(gates, said)
         }
         _ => None,
     }

@@ -1,15 +1,13 @@
 -- A number in front of bytes.
-use Rattle.std.proofs.Common.{◌≡◌, ◌≢◌, ◌⊎◌, ℕ, zero, suc, ◌+◌, ◌-◌, ◌*◌, ◌<◌, ◌≤◌, ◌^◌, Bool, true, false, ◌||◌, eqb, List, [], ◌∷◌, ◌++◌, Option, Some, None, MatchOption, length, take, drop, get_or, refl, sym, ap, ◌∙◌, subst, inl, inr, arith, length-append, length-drop}
-use Rattle.std.specs.List.{AllByRecursion}
-use Rattle.std.specs.Prelude.{not}
+use Rattle.std.proofs.Common.{◌≡◌, ℕ, ◌+◌, ◌-◌, ◌<◌, ◌≤◌, ◌^◌, Bool, true, false, eqb, List, [], ◌∷◌, ◌++◌, length, take, drop, get_or, refl, sym, ap, ◌∙◌, subst, inl, inr, arith, length-append, length-drop}
+use Rattle.std.specs.Prelude.{not, ◌==◌}
 use Rattle.std.specs.Str.{bytes_eq}
 use Rattle.std.proofs.lemmas.Slice.Eq.{bytes_eq-Decides}
 use Rattle.std.specs.Fmt.{decimal}
 use Rattle.std.specs.Int.{IsInRange}
-use Rattle.std.specs.Char.{digit_value}
 use Rattle.std.specs.Str.Parse.{AllDigits, digits_value}
-use Rattle.std.proofs.lemmas.Bool.{false≢true, cases_eq, cases_lt, or_cases, eqb-true, ne_eqb}
-use Rattle.std.proofs.lemmas.List.{take_all, get_or-take, take-append-le, take-append-drop, length-take-le, get_or_append_left, get_or-append_right}
+use Rattle.std.proofs.lemmas.Bool.{false≢true, cases_eq, cases_lt, or_cases, eqb-true}
+use Rattle.std.proofs.lemmas.List.{append-nil, take_all, get_or-take, take-append-le, take-append-drop, length-take-le, get_or_append_left}
 use Rattle.std.proofs.Math.Seq.{drop-append_seam}
 use Rattle.std.proofs.lemmas.Fmt.{decimal_is_IsNumeral, decimal_nonempty, decimal_injective}
 use Rattle.std.proofs.lemmas.Str.Parse.{digit_at, digit_from_value}
@@ -167,3 +165,12 @@ told_same x y h = (bytes_eq-Decides x y).0 (as_true (bytes_eq x y) h)
     as_true : (b : Bool) → false ≡ not b → b ≡ true
     as_true false e = e
     as_true true e = refl
+
+-- ---- a number alone
+
+-- what is one number has nothing behind another
+pub none_behind : (m n : ℕ) (rest : List ℕ) → m < 10000000000 → n < 10000000000 → EndsWord rest → decimal m ≡ decimal n ++ rest → false ≡ (length rest == 0) → ⊥
+none_behind m n [] small few ends e other = false≢true other
+none_behind m n (b ∷ rest) small few ends e other =
+    let same : m ≡ n = same_number m n [] (b ∷ rest) small few tt ends (append-nil (decimal m) ∙ e) in
+    absurd (omega (arith, ap length e, ap (λ k. length (decimal k)) same, length-append (decimal n) (b ∷ rest)))

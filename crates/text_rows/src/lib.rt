@@ -12,4 +12,4 @@ mod words;
 
 pub use laws::{lines_are_read, words_are_read};
 pub use lines::next_free_line;
-pub use words::{after_word, is_blank, number, signed};
+pub use words::{after_word, is_blank, number, signed, whole_number};

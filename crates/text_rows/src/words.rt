@@ -103,6 +103,14 @@ fn plain(word: &[u8]) -> Option<(u64, &[u8])>
     Some((n, rest))
 }
 
+/// The number of at most ten digits that the bytes are, where nothing else stands there.
+pub fn whole_number(bytes: &[u8]) -> Option<u64>
+    ensures { MatchOption result ((n : ℕ) → n < 10000000000 → bytes.now ≡ decimal n → ⊥) (λ n. (n < 10000000000) × (bytes.now ≡ decimal n)) }
+{
+    let (n, rest) = plain(bytes)?;
+    if rest.is_empty() { Some(n) } else { None }
+}
+
 /// The first word as a number of at most ten digits, and what follows it.
 #[inline(always)]
 pub fn number(bytes: &[u8]) -> Option<(u64, &[u8])>

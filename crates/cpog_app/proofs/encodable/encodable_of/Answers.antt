@@ -64,6 +64,7 @@ returns-clause-ok c =
       different = rw same (subst AreDifferent c.deref-2.ensures.value c.in_ok-check_different.ensures.ok);
       bits = rw same (subst (λ n. IsBits c.args.asked n c.in_ok-bits.bits) size c.in_ok-bits.ensures.bits);
       some_bit = c.in_ok-bits.ensures.some;
+      least = c.in_ok-bits.ensures.least;
       few_bits = c.in_ok-bits.ensures.few;
       enough = rw same (omega (arith, size, c.in_ok-bits.ensures.enough));
     }

@@ -1,7 +1,7 @@
 use Rattle.std.proofs.Common.{map, arith}
 use Rattle.std.proofs.lemmas.List.{length-map}
 use Rattle.std.specs.String.{string_bytes}
-use Rattle.cpog_app.proofs.BitLemmas.{one_word}
+use Rattle.cpog_app.proofs.WordLemmas.{one_word}
 use Rattle.cpog_app.proofs.words.+options_after.Goals as goal
 
 pub returns-in_default : goal.returns-in_default
