@@ -14,3 +14,4 @@ pub mod SizeLemmas
 pub mod CountedLemmas
 pub mod WithinLemmas
 pub mod BothWaysLemmas
+pub mod RefutedLemmas

@@ -1,5 +1,5 @@
 -- What is proved of templates.
-use Rattle.std.specs.Prelude.{◌≡◌, ◌↔◌, ℕ, ◌≤◌, IsTrue, List, length}
+use Rattle.std.specs.Prelude.{◌≡◌, ◌↔◌, ℕ, ◌+◌, ◌≤◌, IsTrue, List, length}
 use Rattle.std.specs.List.{All}
 use Rattle.cpog_defs.specs.declared.types.Bit3.{Bit3}
 use Rattle.cpog_defs.specs.Codes.{open_patterns}
@@ -7,10 +7,11 @@ use Rattle.cpog_defs.specs.Orders.{Order, IsOrderOf}
 use Rattle.cpog_defs.specs.Encodings.{HasEncoding}
 use Rattle.cpog_merge.specs.Columns.{Columns, count_of, AreColumnsOf}
 use Rattle.cpog_merge.specs.Classes.{Classes, AreClassesOf}
-use Rattle.clause_arena.specs.Clauses.{IsSatisfiable}
+use Rattle.clause_arena.specs.Clauses.{IsSatisfiable, HaveNoSolution}
 use Rattle.clause_arena.specs.Formulas.{are_within}
 use Rattle.clause_arena.specs.Arenas.{literals}
 use Rattle.gate_core.specs.Columns.{IsOpenColumn}
+use Rattle.gate_core.specs.Bounds.{IsLowerBound}
 use Rattle.gate_template.specs.Variables.{variables}
 use Rattle.gate_template.specs.declared.types.Template.{Template}
 use Rattle.gate_template.specs.declared.types.Template.TheVariants.{Second, Third}
@@ -32,6 +33,14 @@ TemplateLifts =
     2 ≤ bits → ArePatterns bits (length orders) patterns →
     IsSatisfiable (template kind patterns bits gates list.columns)
     ↔ HasEncodingWithin (count_of orders) orders (kept_patterns kind patterns) bits gates
+
+-- Where no assignment satisfies a template, no encoding that keeps the given bits has as few gates as it asks for.
+abbrev pub RefutedTemplatesBound : Type 0
+RefutedTemplatesBound =
+    (kind : Template) (orders : List Order) (patterns : List (List Bit3)) (t : Columns) (list : Classes) (bits gates : ℕ) →
+    All (IsOrderOf (count_of orders)) orders → AreColumnsOf orders t → AreClassesOf t list → 1 ≤ length orders →
+    2 ≤ bits → ArePatterns bits (length orders) patterns →
+    HaveNoSolution (template kind patterns bits gates list.columns) → IsLowerBound (count_of orders) orders patterns bits (gates + 1)
 
 -- the second template is the third one with every bit open
 abbrev pub SecondIsThirdWithOpenBits : Type 0
