@@ -15,3 +15,4 @@ pub mod CountedLemmas
 pub mod WithinLemmas
 pub mod BothWaysLemmas
 pub mod RefutedLemmas
+pub mod FlippedLemmas
