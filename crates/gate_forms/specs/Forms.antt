@@ -82,6 +82,12 @@ idle_gate = record { j = 0; k = 1; table = 0 }
 abbrev pub padded : GateList → ℕ → GateList
 padded list to = record { inputs = list.inputs; gates = list.gates ++ replicate (to - length list.gates) idle_gate }
 
+-- each reference over the old signals has the old value on every word
+abbrev pub KeepsValues : GateList → GateList → Type 0
+KeepsValues before after =
+    (word : ℕ) (r : Ref) → IsRefOver (signal_count before) r →
+    ref_value (signal_values after word) r ≡ ref_value (signal_values before word) r
+
 -- gates that read the same signals
 abbrev pub ReadTheSame : List Gate → List Gate → Type 0
 ReadTheSame [] [] = Unit {0}

@@ -3,7 +3,7 @@ ghost use Rattle.std.specs.Prelude.{◌≡◌, ◌≢◌, ◌+◌, ◌<◌, ◌�
 ghost use Rattle.std.specs.List.{All};
 ghost use Rattle.cpog_defs.specs.Codes.{word_bits};
 ghost use Rattle.cpog_defs.specs.Gates.{signal_count, IsRefOver};
-ghost use Rattle.gate_forms.specs.Forms.{IsNormalForm, idle_gate, padded, IsFlipped};
+ghost use Rattle.gate_forms.specs.Forms.{IsNormalForm, idle_gate, padded, KeepsValues, IsFlipped};
 
 use crate::signs::{Form, push_gates_under, refs_under};
 use cpog_base::bits::has_bit;
@@ -54,7 +54,8 @@ pub fn pad(alloc: Global, gates: &GateList, to: u32) -> Result<GateList, Memory>
     requires inputs { 2 ≤ gates.now.inputs }
     requires more { length gates.now.gates ≤ to }
     requires room { gates.now.inputs + to < 2 ^ 32 }
-    ensures { IfOk result (λ list. list ≡ padded gates.now to) }
+    ensures list { IfOk result (λ list. list ≡ padded gates.now to) }
+    ensures values { IfOk result (KeepsValues gates.now) }
 {
     let mut list = gates.try_clone(alloc)?;
     for g in gates.len()..to {

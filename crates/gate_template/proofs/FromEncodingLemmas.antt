@@ -1,5 +1,5 @@
 -- An encoding of at most so many gates satisfies the template with so many.
-use Rattle.std.proofs.Common.{◌≡◌, ℕ, zero, suc, ◌^◌, ◌<◌, ◌≤◌, Bool, true, false, not, ◌&&◌, IsTrue, List, [], ◌∷◌, map, length, get_or, All, refl, sym, ap, ◌∙◌, subst, arith}
+use Rattle.std.proofs.Common.{◌≡◌, ℕ, suc, ◌<◌, ◌≤◌, Bool, true, false, not, ◌&&◌, if◌then◌else◌, IsTrue, bit_xor, List, [], ◌∷◌, map, length, get_or, All, refl, sym, ap, ◌∙◌, subst, arith}
 use Rattle.std.specs.List.{list_any}
 use Rattle.std.proofs.lemmas.List.{length-map, get_or-map}
 use Rattle.std.proofs.lemmas.List.Elements.{All-get_or, All-from_get_or}
@@ -7,7 +7,7 @@ use Rattle.cpog_defs.specs.declared.types.Bit3.{Bit3}
 use Rattle.cpog_defs.specs.declared.types.Ref.TheVariants.{Const}
 use Rattle.cpog_defs.specs.declared.types.Place.{Place}
 use Rattle.cpog_defs.specs.declared.types.Place.TheVariants.{Op}
-use Rattle.cpog_defs.specs.Codes.{bit, AreCodes, open_patterns}
+use Rattle.cpog_defs.specs.Codes.{bit, AreCodes}
 use Rattle.cpog_defs.specs.Orders.{Order, IsOrderOf}
 use Rattle.cpog_defs.specs.Gates.{signal_count, IsRefOver}
 use Rattle.cpog_defs.specs.Graphs.{IsPlace, ref_of}
@@ -21,11 +21,10 @@ use Rattle.cpog_merge.specs.Columns.{Columns, column_at, count_of, AreColumnsOf,
 use Rattle.cpog_merge.specs.Classes.{IsClass, Classes, AreClassesOf}
 use Rattle.cpog_merge.proofs.FitLemmas.{columns_fit}
 use Rattle.clause_arena.specs.Clauses.{IsSatisfiable, by_place}
-use Rattle.gate_forms.specs.Forms.{flipped, IsNormalForm, padded, ReadTheSame, new_ref}
+use Rattle.gate_forms.specs.Forms.{IsNormalForm, padded, ReadTheSame, new_ref}
 use Rattle.gate_forms.proofs.FormLemmas.{normal_form, normal_list, normal_flags, normal_valid, flipped_form, flipped_list, flipped_flags, flipped_valid, length-padded, padded_normal}
 use Rattle.gate_template.specs.declared.types.Template.{Template}
-use Rattle.gate_template.specs.declared.types.Template.TheVariants.{First, Second, Third}
-use Rattle.gate_template.specs.Values.{Parts, IsSolution, HasZeros, value_of}
+use Rattle.gate_template.specs.Values.{Parts, IsSolution, HasZeros, TakesOpenBits, value_of}
 use Rattle.gate_template.specs.Families.{gives}
 use Rattle.gate_template.specs.Templates.{shape_of, template, kept_patterns, ArePatterns}
 use Rattle.gate_template.specs.Laws.{HasEncodingWithin}
@@ -33,7 +32,8 @@ use Rattle.gate_template.proofs.NumberLemmas.{in_order}
 use Rattle.gate_template.proofs.DecodeLemmas.{number_from, number_from-lt, bit-number_from}
 use Rattle.gate_template.specs.Listed.{listed}
 use Rattle.gate_template.proofs.ListedLemmas.{length-listed, get_or-listed, serve_from}
-use Rattle.gate_template.proofs.ServeLemmas.{parts_satisfy, normal_serves, padded_serves, flipped_serves}
+use Rattle.gate_template.proofs.ServeLemmas.{parts_satisfy, normal_serves, padded_serves}
+use Rattle.gate_template.proofs.FlippedLemmas.{flipped_is_solution, flipped_has_zeros}
 
 -- ---- what serves, made normal and padded
 
@@ -62,61 +62,26 @@ module _ (kind : Template) (patterns columns : List (List Bit3)) (bits : ℕ) (e
   abbrev mask : ℕ
   mask = number_from bits flips
 
-  abbrev new_code : ℕ → ℕ
-  new_code s = number_from bits (λ i. flipped (bit mask i) (bit (get_or e.codes s 0) i))
-
-  abbrev new_codes : List ℕ
-  new_codes = listed new_code (length e.codes)
+  takes : TakesOpenBits kind patterns bits mask e
+  takes = record {
+    below = number_from-lt bits flips;
+    bits_are = λ i l. bit-number_from bits flips i l ∙ choice (gives (kept_patterns kind patterns) i) (bit (get_or e.codes 0 0) i);
+  }
+    where
+      choice : (g b : Bool) → (not g && b) ≡ (if g then false else b)
+      choice true b = refl
+      choice false b = refl
 
   moved : Parts
-  moved = record { codes = new_codes; gates = flipped_list mask e.gates sv.gates; refs = map (new_ref (flipped_flags mask e.gates sv.gates)) e.refs }
-
-  moved_serves : IsSolution kind patterns bits columns moved
-  unfolding moved
-  moved_serves = flipped_serves kind patterns columns bits mask e new_codes (flipped_list mask e.gates sv.gates) (map (new_ref (flipped_flags mask e.gates sv.gates)) e.refs) sv
-      (flipped_valid mask e.gates sv.gates) (flipped_form mask e.gates e.refs sv.gates sv.references.over)
-      (λ s d l. let m : s < length e.codes = omega (arith, length-listed new_code (length e.codes)) in
-      subst (λ c. c < 2 ^ bits) (sym (get_or-listed new_code (length e.codes) s d m)) (number_from-lt bits (λ i. flipped (bit mask i) (bit (get_or e.codes s 0) i))))
-      (length-listed new_code (length e.codes))
-      (λ s l i li. let m : s < length e.codes = omega (arith, length-listed new_code (length e.codes)) in
-      ap (λ c. bit c i) (get_or-listed new_code (length e.codes) s 0 m) ∙ bit-number_from bits (λ i. flipped (bit mask i) (bit (get_or e.codes s 0) i)) i li)
-      even
-      (λ i li g. bit-number_from bits flips i li ∙ ap (λ b. not b && bit (get_or e.codes 0 0) i) g)
-
-  first_zero : (i : ℕ) → i < bits → gives (kept_patterns kind patterns) i ≡ false → bit (get_or new_codes 0 0) i ≡ false
-  first_zero i li g =
-      let m : 0 < length e.codes = omega (arith, sv.codes.one_each) in
-      ap (λ c. bit c i) (get_or-listed new_code (length e.codes) 0 0 m) ∙ bit-number_from bits (λ i. flipped (bit mask i) (bit (get_or e.codes 0 0) i)) i li
-      ∙ ap (λ f. flipped f (bit (get_or e.codes 0 0) i)) (bit-number_from bits flips i li ∙ ap (λ b. not b && bit (get_or e.codes 0 0) i) g) ∙ itself (bit (get_or e.codes 0 0) i)
-    where
-      itself : (b : Bool) → flipped b b ≡ false
-      itself true = refl
-      itself false = refl
-
-  none_given : (n i : ℕ) → gives (open_patterns n) i ≡ false
-  none_given zero i = refl
-  none_given (suc n) i = none_given n i
-
-  all_zero : (n : ℕ) (f : ℕ → Bool) → ((i : ℕ) → i < n → f i ≡ false) → number_from n f ≡ 0
-  unfolding number_from
-  all_zero zero f h = refl
-  all_zero (suc n) f h = rw (h n (omega arith)) (omega (arith, all_zero n f (λ i l. h i (omega arith))))
-
-  zeros_for : (k : Template) → kind ≡ k → HasZeros k patterns bits new_codes
-  zeros_for First at = tt
-  zeros_for Second at =
-      let m : 0 < length e.codes = omega (arith, sv.codes.one_each) in
-      get_or-listed new_code (length e.codes) 0 0 m
-      ∙ all_zero bits (λ i. flipped (bit mask i) (bit (get_or e.codes 0 0) i)) (λ i li.
-      sym (ap (λ c. bit c i) (get_or-listed new_code (length e.codes) 0 0 m) ∙ bit-number_from bits (λ i. flipped (bit mask i) (bit (get_or e.codes 0 0) i)) i li)
-      ∙ first_zero i li (ap (λ k. gives (kept_patterns k patterns) i) at ∙ none_given (length patterns) i))
-  zeros_for Third at = λ i li g. first_zero i li (ap (λ k. gives (kept_patterns k patterns) i) at ∙ g)
+  moved = record { codes = map (bit_xor mask) e.codes; gates = flipped_list mask e.gates sv.gates; refs = map (new_ref (flipped_flags mask e.gates sv.gates)) e.refs }
 
   pub flipped_satisfied : (gates : ℕ) → length e.gates.gates ≤ gates → 2 ≤ bits → All (IsOpenColumn (length patterns)) columns → IsSatisfiable (template kind patterns bits gates columns)
   unfolding moved
   flipped_satisfied gates few two opens =
       let fl = flipped_form mask e.gates e.refs sv.gates sv.references.over in
-      served_satisfied kind patterns columns bits gates moved moved_serves (zeros_for kind refl)
+      let ok = flipped_valid mask e.gates sv.gates in
+      served_satisfied kind patterns columns bits gates moved (flipped_is_solution kind patterns columns bits mask e moved even sv takes refl ok fl)
+      (flipped_has_zeros kind patterns columns bits mask e moved even sv takes refl ok fl some)
       (omega (arith, few, same_count e.gates.gates (flipped_list mask e.gates sv.gates).gates fl.reads)) two opens some
     where
       same_count : (a b : List Gate) → ReadTheSame a b → length a ≡ length b

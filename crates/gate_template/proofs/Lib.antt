@@ -14,3 +14,5 @@ pub mod SizeLemmas
 pub mod CountedLemmas
 pub mod WithinLemmas
 pub mod BothWaysLemmas
+pub mod RefutedLemmas
+pub mod FlippedLemmas

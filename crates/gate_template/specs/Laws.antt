@@ -1,21 +1,25 @@
 -- What is proved of templates.
-use Rattle.std.specs.Prelude.{◌≡◌, ◌↔◌, ℕ, ◌≤◌, IsTrue, List, length}
+use Rattle.std.specs.Prelude.{◌≡◌, ◌↔◌, ℕ, ◌+◌, ◌≤◌, IsTrue, List, length, map, bit_xor}
 use Rattle.std.specs.List.{All}
 use Rattle.cpog_defs.specs.declared.types.Bit3.{Bit3}
 use Rattle.cpog_defs.specs.Codes.{open_patterns}
 use Rattle.cpog_defs.specs.Orders.{Order, IsOrderOf}
+use Rattle.cpog_defs.specs.Gates.{IsGateList}
 use Rattle.cpog_defs.specs.Encodings.{HasEncoding}
+use Rattle.gate_forms.specs.Forms.{IsFlipped}
 use Rattle.cpog_merge.specs.Columns.{Columns, count_of, AreColumnsOf}
 use Rattle.cpog_merge.specs.Classes.{Classes, AreClassesOf}
-use Rattle.clause_arena.specs.Clauses.{IsSatisfiable}
+use Rattle.clause_arena.specs.Clauses.{IsSatisfiable, HaveNoSolution}
 use Rattle.clause_arena.specs.Formulas.{are_within}
 use Rattle.clause_arena.specs.Arenas.{literals}
 use Rattle.gate_core.specs.Columns.{IsOpenColumn}
+use Rattle.gate_core.specs.Bounds.{IsLowerBound}
 use Rattle.gate_template.specs.Variables.{variables}
 use Rattle.gate_template.specs.declared.types.Template.{Template}
 use Rattle.gate_template.specs.declared.types.Template.TheVariants.{Second, Third}
 use Rattle.gate_template.specs.Templates.{shape_of, template, kept_patterns, ArePatterns}
 use Rattle.gate_template.specs.Counts.{IsCounted}
+use Rattle.gate_template.specs.Values.{Parts, IsSolution, HasZeros, TakesOpenBits}
 
 -- the scenarios have an encoding of so many bits at this cost or a lower one
 pub record HasEncodingWithin (count : ℕ) (orders : List Order) (patterns : List (List Bit3)) (bits gates : ℕ) : Type 0 where
@@ -32,6 +36,24 @@ TemplateLifts =
     2 ≤ bits → ArePatterns bits (length orders) patterns →
     IsSatisfiable (template kind patterns bits gates list.columns)
     ↔ HasEncodingWithin (count_of orders) orders (kept_patterns kind patterns) bits gates
+
+-- Where no assignment satisfies a template, no encoding that keeps the given bits has as few gates as it asks for.
+abbrev pub RefutedTemplatesBound : Type 0
+RefutedTemplatesBound =
+    (kind : Template) (orders : List Order) (patterns : List (List Bit3)) (t : Columns) (list : Classes) (bits gates : ℕ) →
+    All (IsOrderOf (count_of orders)) orders → AreColumnsOf orders t → AreClassesOf t list → 1 ≤ length orders →
+    2 ≤ bits → ArePatterns bits (length orders) patterns →
+    HaveNoSolution (template kind patterns bits gates list.columns) → IsLowerBound (count_of orders) orders patterns bits (gates + 1)
+
+-- A solution whose codes are combined with such a mask, and whose gates and references are flipped by it, is a solution with
+-- the zeros that the template asks for.
+abbrev pub FlippedSolutionsHaveZeros : Type 0
+FlippedSolutionsHaveZeros =
+    (kind : Template) (patterns columns : List (List Bit3)) (bits mask : ℕ) (before after : Parts) → 1 ≤ length patterns →
+    All (λ pattern. length pattern ≡ bits) patterns → IsSolution kind patterns bits columns before →
+    TakesOpenBits kind patterns bits mask before → after.codes ≡ map (bit_xor mask) before.codes → IsGateList after.gates →
+    IsFlipped mask before.gates before.refs after.gates after.refs →
+    IsSolution kind patterns bits columns after × HasZeros kind patterns bits after.codes
 
 -- the second template is the third one with every bit open
 abbrev pub SecondIsThirdWithOpenBits : Type 0

@@ -1,5 +1,5 @@
 -- The values that codes, gates and references give to the variables of a template.
-use Rattle.std.specs.Prelude.{◌≡◌, ℕ, ◌+◌, ◌<◌, ◌==◌, Bool, false, not, ◌&&◌, if◌then◌else◌, List, length, slice_index_or}
+use Rattle.std.specs.Prelude.{◌≡◌, ℕ, ◌+◌, ◌^◌, ◌<◌, ◌==◌, Bool, false, not, ◌&&◌, if◌then◌else◌, List, length, slice_index_or}
 use Rattle.cpog_defs.specs.declared.types.Gate.{Gate}
 use Rattle.cpog_defs.specs.declared.types.Ref.{Ref}
 use Rattle.cpog_defs.specs.declared.types.Ref.TheVariants.{Const, Signal}
@@ -69,3 +69,8 @@ abbrev pub HasZeros : Template → List (List Bit3) → ℕ → List ℕ → Typ
 HasZeros First patterns bits codes = Unit {0}
 HasZeros Second patterns bits codes = slice_index_or codes 0 0 ≡ 0
 HasZeros Third patterns bits codes = (i : ℕ) → i < bits → gives patterns i ≡ false → bit (slice_index_or codes 0 0) i ≡ false
+
+-- the mask has the bits of the first code that no kept pattern gives, and no other
+pub record TakesOpenBits (kind : Template) (patterns : List (List Bit3)) (bits mask : ℕ) (e : Parts) : Type 0 where
+  pub below : mask < 2 ^ bits
+  pub bits_are : (i : ℕ) → i < bits → bit mask i ≡ (if gives (kept_patterns kind patterns) i then false else bit (code_of e 0) i)

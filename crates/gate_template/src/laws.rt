@@ -1,11 +1,23 @@
 //! What is promised of templates.
 
-ghost use Rattle.gate_template.specs.Laws.{TemplateLifts, SecondIsThirdWithOpenBits, TemplateIsWithin, TemplateIsCounted, VariablesAreFew};
+ghost use Rattle.gate_template.specs.Laws.{TemplateLifts, RefutedTemplatesBound, FlippedSolutionsHaveZeros, SecondIsThirdWithOpenBits, TemplateIsWithin, TemplateIsCounted, VariablesAreFew};
 
 /// A template is satisfiable exactly where the scenarios have an encoding of at most so many gates (Mokhov and Yakovlev
 /// 2010: the encoding of scenarios as a search for satisfying assignments), whatever the number of the template.
 pub fn template_lifts()
     ensures { TemplateLifts }
+{}
+
+/// A refutation of a template is a lower bound on the gates of every encoding that keeps the given bits, whatever the
+/// number of the template.
+pub fn refuted_templates_bound()
+    ensures { RefutedTemplatesBound }
+{}
+
+/// What `flip` of `gate_forms` answers, for a mask of the open bits of the first code, is a solution whose first code is as
+/// the template asks. So each solution gives an assignment that satisfies the template.
+pub fn flipped_solutions_have_zeros()
+    ensures { FlippedSolutionsHaveZeros }
 {}
 
 /// The second template is the third one with every bit open.

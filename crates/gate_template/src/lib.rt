@@ -9,7 +9,7 @@ mod laws;
 pub mod types;
 
 pub use laws::{
-    second_is_third_with_open_bits, template_is_counted, template_is_within, template_lifts,
-    variables_are_few,
+    flipped_solutions_have_zeros, refuted_templates_bound, second_is_third_with_open_bits,
+    template_is_counted, template_is_within, template_lifts, variables_are_few,
 };
 pub use types::{Shape, Template};

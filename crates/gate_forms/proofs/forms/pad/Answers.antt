@@ -1,8 +1,9 @@
-use Rattle.std.proofs.Common.{◌≡◌, ℕ, ◌+◌, ◌-◌, ◌++◌, [], ◌∷◌, List, length, replicate, suc, ap, ◌∙◌, arith, length-append}
+use Rattle.std.proofs.Common.{◌≡◌, ℕ, ◌+◌, ◌-◌, ◌++◌, [], ◌∷◌, List, length, replicate, suc, sym, ap, ◌∙◌, subst, arith, length-append}
 use Rattle.std.proofs.lemmas.List.{length-replicate}
 use Rattle.cpog_defs.specs.declared.types.Gate.{Gate}
 use Rattle.cpog_defs.specs.Gates.{GateList, signal_count}
-use Rattle.gate_forms.specs.Forms.{idle_gate}
+use Rattle.gate_forms.specs.Forms.{idle_gate, padded, KeepsValues}
+use Rattle.gate_forms.proofs.FormLemmas.{padded_ref_value}
 use Rattle.gate_forms.proofs.MoveLemmas.{idle_more}
 use Rattle.gate_forms.proofs.forms.pad.Goals as goal
 
@@ -23,3 +24,10 @@ loop-g-preserved c =
     let more : suc n ≡ c.loop-g.g + 1 - length gates.gates = omega (arith, c.len-g.ensures.len) in
     c.in_ok-push.ensures.gates ∙ ap (λ (l : GateList). let made : GateList = record l { gates = l.gates ++ idle_gate ∷ [] } in made) c.loop-g.invariant
     ∙ ap make (idle_more gates.gates n ∙ ap (λ k. gates.gates ++ replicate k idle_gate) more)
+
+pub returns-clause-values : goal.returns-clause-values
+returns-clause-values c =
+    let gates : GateList = c.args.gates.now in
+    let end : c.loop-g.g ≡ c.args.to = omega (arith, c.len-g.ensures.len) in
+    let is : c.loop-g.list ≡ padded gates c.args.to = c.loop-g.invariant ∙ ap (padded gates) end in
+    subst (KeepsValues gates) (sym is) (λ word r over. padded_ref_value gates c.args.to word r over)
