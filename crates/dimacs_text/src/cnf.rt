@@ -1,5 +1,6 @@
 //! The text of a formula.
-ghost use Rattle.std.specs.Prelude.{◌≡◌, ◌+◌, ◌<◌, ◌≤◌, ◌==◌, [], ℕ, IfOk, IfSome, MatchOption, length, slice_index};
+ghost use Rattle.std.specs.Prelude.{◌≡◌, ◌+◌, ◌*◌, ◌<◌, ◌≤◌, ◌==◌, [], ℕ, IfOk, IfSome, MatchOption, length, slice_index};
+ghost use Rattle.clause_arena.specs.Arenas.{literals};
 ghost use Rattle.text_rows.specs.Lines.{free_lines};
 ghost use Rattle.text_rows.specs.Words.{tokens};
 ghost use Rattle.dimacs_text.specs.Formulas.{body_words, header_words};
@@ -180,7 +181,8 @@ fn read_body<'a>(bytes: &'a [u8], before: u32, header: Header, body: &mut Body) 
 /// `Memory` where none is left.
 pub fn read_cnf(alloc: Global, bytes: &[u8]) -> Result<Cnf, CnfFault>
     requires { length bytes.now ≤ LONG_INPUT_LIMIT }
-    ensures { IsCnfRead (free_lines bytes.now) result }
+    ensures read { IsCnfRead (free_lines bytes.now) result }
+    ensures size { IfOk result (λ formula. 2 * (length formula.clauses.clauses + literals formula.clauses.clauses) ≤ length bytes.now) }
 {
     let front = match read_front(bytes) {
         Ok(front) => front,
