@@ -91,3 +91,10 @@ pub push_step : (variables last first first' : ℕ) (line : List ℕ) (old new :
 push_step variables last first first' line old new e p spells f l is =
     (step_more variables last line old new (id_after last e) e p spells is refl,
      ap₂ (λ (k : ℕ) (ls : List Line). last_id k ls) f is ∙ (last_push first old e ∙ ap (λ (k : ℕ). id_after k e) l))
+
+-- a line that is judged alone
+pub judged_passed : (variables last : ℕ) (line : List ℕ) → is_passed line ≡ true → (old : List Line) → (new : List Line) × StepTo variables last line old new last
+judged_passed variables last line p old = (old, rw p (refl, refl))
+
+pub judged_more : (variables last : ℕ) (line : List ℕ) (e : Line) → is_passed line ≡ false → SpellsLine variables last e (tokens line) → (old : List Line) → (new : List Line) × StepTo variables last line old new (id_after last e)
+judged_more variables last line e p spells old = (old ++ e ∷ [], step_more variables last line old (old ++ e ∷ []) (id_after last e) e p spells refl refl)

@@ -25,3 +25,9 @@ abbrev pub IsLogRead : ℕ → ℕ → List (List ℕ) → ℕ → Result LogSta
 IsLogRead variables clauses lines before (Ok log) = SpellsLog variables clauses lines log.lines × (log.first ≡ clauses) × ((other : List Line) → SpellsLog variables clauses lines other → other ≡ log.lines)
 IsLogRead variables clauses lines before (Err (faults.BadLine n)) = (before ≤ n) × IsFirstBad (IsLogText variables clauses) lines (n - before)
 IsLogRead variables clauses lines before (Err faults.Memory) = Unit {0}
+
+-- the same of a log that is not kept
+abbrev pub IsLogJudged : ℕ → ℕ → List (List ℕ) → ℕ → Result (Unit {0}) LogFault → Type 0
+IsLogJudged variables clauses lines before (Ok x) = IsLogText variables clauses lines
+IsLogJudged variables clauses lines before (Err (faults.BadLine n)) = (before ≤ n) × IsFirstBad (IsLogText variables clauses) lines (n - before)
+IsLogJudged variables clauses lines before (Err faults.Memory) = Unit {0}

@@ -3,6 +3,7 @@
 
 mod body;
 mod cnf;
+mod line_lits;
 mod log;
 mod writing;
 

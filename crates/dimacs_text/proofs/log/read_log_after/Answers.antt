@@ -14,6 +14,8 @@ loop-line-preserved c =
     let p = c.loop-line.invariant.parts in
     let s = rw c.in-Some-step.is at c.in-Ok.ensures.step in
     record {
+      kind = c.in-Ok.ensures.kind;
+      kept = c.in-Ok.ensures.kept;
       first = c.in-Ok.ensures.first ∙ c.loop-line.invariant.first;
       last = s.1;
       counted = omega (arith, c.loop-line.invariant.counted, c.in-Some.ensures.shorter);
