@@ -14,11 +14,11 @@ use Rattle.dimacs_text.specs.declared.cnf.CnfFault.TheVariants as faults
 use Rattle.dimacs_text.specs.declared.log.LogFault.{LogFault}
 use Rattle.dimacs_text.specs.declared.log.LogFault.TheVariants as log_faults
 use Rattle.dimacs_text.specs.Logs.{SpellsLog}
-use Rattle.dimacs_text.specs.LogTexts.{IsLogText, IsLogRead}
+use Rattle.dimacs_text.specs.LogTexts.{IsLogText, IsLogRead, IsLogJudged}
 use Rattle.dimacs_text.specs.Formulas.{body_words, header_words, SpellsFormula}
 use Rattle.dimacs_text.specs.Texts.{IsFormulaText, SpellsJoined, IsJoinedText, IsFront}
 use Rattle.dimacs_text.specs.Bodies.{IsGood, IsBodyRead}
-use Rattle.dimacs_text.specs.CnfTexts.{fault_of, IsJoinedRead}
+use Rattle.dimacs_text.specs.CnfTexts.{fault_of, IsJudgedFault, IsJoinedRead}
 use Rattle.dimacs_text.proofs.EntryLemmas.{heads}
 use Rattle.dimacs_text.proofs.BodyLemmas.{AllOthers}
 use Rattle.dimacs_text.proofs.JoinedLemmas.{split_front, passed_others, joined_begins, joined_bad, joined_end}
@@ -121,3 +121,16 @@ pub log_err : (front : List (List ℕ)) (p : List ℕ) (v count before k : ℕ) 
 log_err front p v count before k all good rest ds os (log_faults.BadLine n) f e at g whole none counted bad =
     log_first front p v count before n all good rest ds os f e at g whole none bad.0 (subst (λ (m : ℕ). IsFirstBad (IsLogText v m) rest (n - before)) counted bad.1)
 log_err front p v count before k all good rest ds os log_faults.Memory f e at g whole none counted bad = tt
+
+-- a fault of a log that is only judged
+pub fault_judged : (v c before : ℕ) (lines : List (List ℕ)) (fault : LogFault) → IsLogJudged v c lines before (Err fault) → IsJudgedFault v c lines before (fault_of fault)
+fault_judged v c before lines (log_faults.BadLine n) h = h
+fault_judged v c before lines log_faults.Memory h = tt
+
+-- and the text with it
+pub judged_err : (front : List (List ℕ)) (p : List ℕ) (v count before : ℕ) (all good rest : List (List ℕ)) (ds : List Clause) (os : Clause) (fault : CnfFault) → IsFront front p v count → all ≡ (front ++ p ∷ good) ++ codes "lrat" ∷ rest → before ≡ length front + 1 + length good + 1 → IsGood v count good ds os → length ds ≡ count → os ≡ [] → VARIABLE_LIMIT < v → IsJudgedFault v count rest before fault → IsJoinedRead all (Err fault)
+judged_err front p v count before all good rest ds os (faults.BadLine n) f e at g whole none over bad =
+    log_first front p v count before n all good rest ds os f e at g whole none bad.0 (subst (λ (m : ℕ). IsFirstBad (IsLogText v m) rest (n - before)) (sym whole) bad.1)
+judged_err front p v count before all good rest ds os faults.Limit f e at g whole none over t =
+    (v, ds, t.0, (front ++ p ∷ good, rest, e, whole_found front p v count (front ++ p ∷ good) good ds os f refl g whole none, subst (λ (m : ℕ). SpellsLog v m rest t.0) (sym whole) t.1), over)
+judged_err front p v count before all good rest ds os faults.Memory f e at g whole none over t = tt

@@ -6,10 +6,10 @@ ghost use Rattle.text_rows.specs.Words.{tokens};
 ghost use Rattle.dimacs_text.specs.Formulas.{body_words, header_words};
 ghost use Rattle.dimacs_text.specs.Keeping.{Holds, IsFor, IsTaken};
 ghost use Rattle.dimacs_text.specs.Bodies.{IsBodyRead};
-ghost use Rattle.dimacs_text.specs.CnfTexts.{IsFrontRead, IsCnfRead, fault_of, IsJoinedRead};
+ghost use Rattle.dimacs_text.specs.CnfTexts.{IsFrontRead, IsCnfRead, fault_of, IsJudgedFault, IsJoinedRead};
 
 use crate::body::Body;
-use crate::log::{LogFault, is_passed, read_log_after};
+use crate::log::{LogFault, is_passed, judge_log, read_log_after};
 use clause_arena::Cnf;
 use cpog_base::{LONG_INPUT_LIMIT, Memory};
 use proof_check::Log;
@@ -219,13 +219,25 @@ fn joined_fault(fault: LogFault) -> CnfFault
     }
 }
 
+/// What is wrong with a text whose formula has too many variables: the first bad line of its log, or else the limit.
+fn judged_fault(alloc: Global, rest: &[u8], header: Header, lines: u32) -> CnfFault
+    requires size { length rest.now + lines ≤ LONG_INPUT_LIMIT }
+    requires small { header.variables < 10000000000 }
+    ensures { IsJudgedFault header.variables header.clauses (free_lines rest.now) lines result }
+{
+    match judge_log(alloc, rest, header.variables, header.clauses, lines) {
+        Ok(()) => CnfFault::Limit,
+        Err(fault) => joined_fault(fault),
+    }
+}
+
 /// A formula, and behind the line `lrat` the log of a refutation of it, as `cpog lrat` reads them. Lines are counted over the
 /// whole text.
 ///
 /// # Errors
 ///
-/// `BadLine` with the first bad line of the text, `Limit` where the formula is good and has more than 16777216 variables
-/// (the log is not read then), and `Memory` where none is left.
+/// `BadLine` with the first bad line of the text, `Limit` where it is good and the formula has more than 16777216
+/// variables, and `Memory` where none is left.
 pub fn read_joined(alloc: Global, bytes: &[u8]) -> Result<(Cnf, Log), CnfFault>
     requires { length bytes.now ≤ LONG_INPUT_LIMIT }
     ensures { IsJoinedRead (free_lines bytes.now) result }
@@ -248,7 +260,7 @@ pub fn read_joined(alloc: Global, bytes: &[u8]) -> Result<(Cnf, Log), CnfFault>
     }
     let clauses = match body.into_clauses() {
         Some(clauses) => clauses,
-        None => return Err(CnfFault::Limit),
+        None => return Err(judged_fault(alloc, rest, front.header, end.lines)),
     };
     let variables = front.header.variables as u32;
     let count = clauses.len();
