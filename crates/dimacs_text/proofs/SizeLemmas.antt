@@ -1,5 +1,5 @@
 -- A formula has at most half as many clauses and literals as its text has bytes.
-use Rattle.std.proofs.Common.{◌≡◌, ℕ, zero, suc, ◌+◌, ◌*◌, ◌<◌, ◌≤◌, ◌==◌, Bool, true, false, cond, List, [], ◌∷◌, ◌++◌, length, map, refl, sym, ap, ◌∙◌, arith, length-append}
+use Rattle.std.proofs.Common.{◌≡◌, ℕ, suc, ◌+◌, ◌*◌, ◌<◌, ◌≤◌, ◌==◌, Bool, true, false, cond, List, [], ◌∷◌, length, map, refl, ap, arith, length-append}
 use Rattle.std.specs.Prelude.{slice_index}
 use Rattle.std.specs.List.{flat_map}
 use Rattle.std.specs.Fmt.{decimal}
@@ -9,7 +9,7 @@ use Rattle.clause_arena.specs.Arenas.{literals}
 use Rattle.text_rows.specs.Words.{tokens}
 use Rattle.text_rows.specs.Lines.{free_lines}
 use Rattle.text_rows.proofs.SizeLemmas.{weight, few_words, few_lines}
-use Rattle.dimacs_text.specs.Logs.{ended, lit_word, is_passed, SpellsIf}
+use Rattle.dimacs_text.specs.Logs.{lit_word, is_passed, SpellsIf}
 use Rattle.dimacs_text.specs.Formulas.{body_words, clause_words, clauses_words, AreClauses, header_words, SpellsFormula}
 
 length_map : (c : Clause) → length (map lit_word c) ≡ length c

@@ -1,5 +1,5 @@
 -- What the readers of formulas answer.
-use Rattle.std.specs.Prelude.{◌≡◌, ℕ, ◌+◌, ◌-◌, ◌<◌, ◌≤◌, List, [], ◌∷◌, ◌++◌, length, Result, Ok, Err}
+use Rattle.std.specs.Prelude.{◌≡◌, ℕ, ◌+◌, ◌-◌, ◌<◌, ◌≤◌, List, ◌∷◌, ◌++◌, length, Result, Ok, Err}
 use Rattle.clause_arena.specs.Clauses.{Clause}
 use Rattle.clause_arena.specs.declared.cnf.Cnf.{Cnf}
 use Rattle.cpog_base.specs.declared.limits.TheConstants.{VARIABLE_LIMIT}
@@ -23,7 +23,8 @@ IsFrontRead lines (Err (faults.BadLine n)) = IsFirstBad IsFormulaText lines n ×
 IsFrontRead lines (Err faults.Limit) = ⊥
 IsFrontRead lines (Err faults.Memory) = ⊥
 
--- Ok is the formula that the lines spell, and no other; Limit says that they spell one of more variables; a bad line is the first
+-- Ok is the formula that the lines spell, and no other; Limit says that they spell one of more variables; a bad line
+-- is the first
 abbrev pub IsCnfRead : List (List ℕ) → Result Cnf CnfFault → Type 0
 IsCnfRead lines (Ok formula) = SpellsFormula lines formula.variables formula.clauses.clauses × (formula.variables ≤ VARIABLE_LIMIT)
     × ((variables : ℕ) (clauses : List Clause) → SpellsFormula lines variables clauses → (variables ≡ formula.variables) × (clauses ≡ formula.clauses.clauses))
@@ -36,14 +37,15 @@ abbrev pub fault_of : LogFault → CnfFault
 fault_of (log_faults.BadLine n) = faults.BadLine n
 fault_of log_faults.Memory = faults.Memory
 
--- what is said where the log is only judged: a bad line is its first, counted behind so many lines, and Limit says that it has none
+-- what is said where the log is only judged: a bad line is its first, counted behind so many lines, and Limit says
+-- that it has none
 abbrev pub IsJudgedFault : ℕ → ℕ → List (List ℕ) → ℕ → CnfFault → Type 0
 IsJudgedFault variables clauses lines before (faults.BadLine n) = (before ≤ n) × IsFirstBad (IsLogText variables clauses) lines (n - before)
 IsJudgedFault variables clauses lines before faults.Limit = IsLogText variables clauses lines
 IsJudgedFault variables clauses lines before faults.Memory = Unit {0}
 
--- Ok is the formula and the log that the lines spell, and no others; Limit says that they spell a formula of more variables; a bad line
--- is the first
+-- Ok is the formula and the log that the lines spell, and no others; Limit says that they spell a formula of more
+-- variables; a bad line is the first
 abbrev pub IsJoinedRead : List (List ℕ) → Result (Cnf × LogState) CnfFault → Type 0
 IsJoinedRead lines (Ok x) = SpellsJoined lines x.0.variables x.0.clauses.clauses x.1.lines × (x.0.variables ≤ VARIABLE_LIMIT) × (x.1.first ≡ length x.0.clauses.clauses)
     × ((variables : ℕ) (clauses : List Clause) (log : List Line) → SpellsJoined lines variables clauses log → (variables ≡ x.0.variables) × (clauses ≡ x.0.clauses.clauses) × (log ≡ x.1.lines))

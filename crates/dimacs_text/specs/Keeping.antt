@@ -1,6 +1,6 @@
 -- What the readers keep of the clauses and lines that they have read.
 use Rattle.std.specs.Prelude.{◌≡◌, ℕ, ◌<◌, ◌≤◌, Bool, true, false, List, [], ◌∷◌, length}
-use Rattle.clause_arena.specs.Clauses.{Lit, Clause}
+use Rattle.clause_arena.specs.Clauses.{Clause}
 use Rattle.clause_arena.specs.Formulas.{is_within, are_within}
 use Rattle.cpog_base.specs.declared.limits.TheConstants.{VARIABLE_LIMIT}
 use Rattle.dimacs_text.specs.declared.body.Body.{Body}

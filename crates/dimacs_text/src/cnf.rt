@@ -1,4 +1,5 @@
-//! The text of a formula.
+//! The text of a formula: comments, the `p` line, and the numbers of its clauses, wherever lines end. Behind the line
+//! `lrat` a log may stand.
 ghost use Rattle.std.specs.Prelude.{◌≡◌, ◌+◌, ◌*◌, ◌<◌, ◌≤◌, ◌==◌, [], ℕ, IfOk, IfSome, MatchOption, length, slice_index};
 ghost use Rattle.clause_arena.specs.Arenas.{literals};
 ghost use Rattle.text_rows.specs.Lines.{free_lines};
@@ -71,7 +72,7 @@ fn read_header(line: &[u8]) -> Option<Header>
 
 /// The lines up to the `p` line.
 fn read_front(bytes: &[u8]) -> Result<Front<'_>, CnfFault>
-    requires { length bytes.now ≤ 536870912 }
+    requires { length bytes.now ≤ LONG_INPUT_LIMIT }
     ensures front { IsFrontRead (free_lines bytes.now) result }
     ensures lines { IfOk result (λ x. length x.rest.now + x.lines ≤ length bytes.now) }
 {
@@ -141,16 +142,21 @@ fn take_line(line: &[u8], header: Header, body: &mut Body) -> Result<bool, Memor
 }
 
 /// The lines up to the line `lrat` or the end.
-fn read_body<'a>(bytes: &'a [u8], before: u32, header: Header, body: &mut Body) -> Result<BodyEnd<'a>, CnfFault>
-    requires size { length bytes.now + before ≤ 536870912 }
+fn read_body<'a>(
+    bytes: &'a [u8],
+    before: u32,
+    header: Header,
+    body: &mut Body,
+) -> Result<BodyEnd<'a>, CnfFault>
+    requires size { length bytes.now + before ≤ LONG_INPUT_LIMIT }
     requires small { header.variables < 10000000000 }
     requires few { header.clauses < 10000000000 }
     requires kind { IsFor header.variables body.old }
     requires nothing { Holds body.old [] [] }
     ensures kind { IfOk result (λ _. IsFor header.variables body.new) }
     ensures body { IsBodyRead header.variables header.clauses before (free_lines bytes.now) body.new result }
-    ensures lines { IfOk result (λ x. x.lines ≤ 536870912) }
-    ensures rest { IfOk result (λ x. IfSome x.rest (λ r. length r.now + x.lines ≤ 536870912)) }
+    ensures lines { IfOk result (λ x. x.lines ≤ LONG_INPUT_LIMIT) }
+    ensures rest { IfOk result (λ x. IfSome x.rest (λ r. length r.now + x.lines ≤ LONG_INPUT_LIMIT)) }
 {
     let mut rest = bytes;
     let mut lines = before;
@@ -231,8 +237,8 @@ fn judged_fault(alloc: Global, rest: &[u8], header: Header, lines: u32) -> CnfFa
     }
 }
 
-/// A formula, and behind the line `lrat` the log of a refutation of it, as `cpog lrat` reads them. Lines are counted over the
-/// whole text.
+/// A formula, and behind the line `lrat` the log of a refutation of it, as `cpog lrat` reads them. Lines are counted
+/// over the whole text.
 ///
 /// # Errors
 ///

@@ -27,6 +27,7 @@ impl LineLits {
     }
 
     /// One literal more.
+    #[inline(always)]
     pub fn take(&mut self, n: u64, negated: bool) -> Result<(), Memory>
         requires positive { 0 < n }
         requires fits { IsLitFitting n self.old }
@@ -42,6 +43,7 @@ impl LineLits {
     }
 
     /// The literals that are kept.
+    #[inline(always)]
     pub fn as_slice(&self) -> &[Lit]
         ensures { (ls : Clause) → IsKept self.now → HoldsLits self.now ls → result.now ≡ ls }
     {

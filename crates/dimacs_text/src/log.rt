@@ -1,4 +1,4 @@
-//! The text of a log.
+//! The text of a log: a line for each addition and each deletion, with free spacing, comments and blank lines.
 ghost use Rattle.std.specs.Prelude.{◌≡◌, ◌+◌, ◌<◌, ◌≤◌, ◌^◌, ◌∷◌, ◌++◌, [], ℕ, Bool, true, false, MatchOption, IfOk, IfErr, length, map, List};
 ghost use Rattle.std.specs.Fmt.{decimal};
 ghost use Rattle.text_rows.specs.Words.{tokens};
@@ -17,24 +17,22 @@ use proof_check::Log;
 use std::alloc::Global;
 use text_rows::{after_word, is_blank, next_free_line, number, signed};
 
-/// What is wrong with a log's text.
+/// What is wrong with the text of a log.
 #[derive(Clone, Copy, Debug, PartialEq, Eq)]
 pub enum LogFault {
+    /// The number of the first bad line, from 1.
     BadLine(u32),
     Memory,
 }
 
-impl From<Memory> for LogFault {
-    fn from(_error: Memory) -> LogFault {
-        LogFault::Memory
-    }
-}
-
-/// A line of a log: its numbers are kept beside it.
+/// What a line of a log is, beside its literals and its hints or deleted ids, which stay in buffers.
 #[derive(Clone, Copy)]
 enum Entry {
+    /// An addition with this id.
     Add(u32),
+    /// A deletion.
     Del,
+    /// Neither.
     Bad,
 }
 
@@ -58,7 +56,11 @@ fn read_ids<'a>(words: &'a [u8], ids: &mut Vec<u32>) -> Result<Option<&'a [u8]>,
 }
 
 /// The literals up to `0`, and what follows it.
-fn read_lits<'a>(words: &'a [u8], variables: u64, lits: &mut LineLits) -> Result<Option<&'a [u8]>, Memory>
+fn read_lits<'a>(
+    words: &'a [u8],
+    variables: u64,
+    lits: &mut LineLits,
+) -> Result<Option<&'a [u8]>, Memory>
     requires small { variables < 10000000000 }
     requires kind { IsLitsFor variables lits.old }
     ensures kind { IfOk result (λ _. IsLitsFor variables lits.new) }
@@ -192,7 +194,14 @@ pub fn read_log_after(
     while let Some((line, after)) = next_free_line(rest) {
         rest = after;
         number += 1;
-        let Ok(step) = read_line(&mut log, line, variables as u64, last, &mut lits, &mut hints) else {
+        let Ok(step) = read_line(
+            &mut log,
+            line,
+            variables as u64,
+            last,
+            &mut lits,
+            &mut hints,
+        ) else {
             return Err(LogFault::Memory);
         };
         let Some(next) = step else {
@@ -204,7 +213,13 @@ pub fn read_log_after(
 }
 
 /// Passes over a line of a log: the id of the last addition behind it, or none where the line may not stand.
-fn judge_line(line: &[u8], variables: u64, last: u64, lits: &mut LineLits, hints: &mut Vec<u32>) -> Result<Option<u64>, Memory>
+fn judge_line(
+    line: &[u8],
+    variables: u64,
+    last: u64,
+    lits: &mut LineLits,
+    hints: &mut Vec<u32>,
+) -> Result<Option<u64>, Memory>
     requires small { variables < 10000000000 }
     requires kind { IsLitsFor variables lits.old }
     ensures kind { IfOk result (λ _. IsLitsFor variables lits.new) }

@@ -1,15 +1,13 @@
 -- A number in front of bytes.
-use Rattle.std.proofs.Common.{◌≡◌, ◌≢◌, ◌⊎◌, ℕ, zero, suc, ◌+◌, ◌-◌, ◌*◌, ◌<◌, ◌≤◌, ◌^◌, Bool, true, false, ◌||◌, eqb, List, [], ◌∷◌, ◌++◌, Option, Some, None, MatchOption, length, take, drop, get_or, refl, sym, ap, ◌∙◌, subst, inl, inr, arith, length-append, length-drop}
-use Rattle.std.specs.List.{AllByRecursion}
+use Rattle.std.proofs.Common.{◌≡◌, ℕ, ◌+◌, ◌-◌, ◌<◌, ◌≤◌, ◌^◌, Bool, true, false, eqb, List, [], ◌∷◌, ◌++◌, length, take, drop, get_or, refl, sym, ap, ◌∙◌, subst, inl, inr, arith, length-append, length-drop}
 use Rattle.std.specs.Prelude.{not}
 use Rattle.std.specs.Str.{bytes_eq}
 use Rattle.std.proofs.lemmas.Slice.Eq.{bytes_eq-Decides}
 use Rattle.std.specs.Fmt.{decimal}
 use Rattle.std.specs.Int.{IsInRange}
-use Rattle.std.specs.Char.{digit_value}
 use Rattle.std.specs.Str.Parse.{AllDigits, digits_value}
-use Rattle.std.proofs.lemmas.Bool.{false≢true, cases_eq, cases_lt, or_cases, eqb-true, ne_eqb}
-use Rattle.std.proofs.lemmas.List.{take_all, get_or-take, take-append-le, take-append-drop, length-take-le, get_or_append_left, get_or-append_right}
+use Rattle.std.proofs.lemmas.Bool.{false≢true, cases_eq, cases_lt, or_cases, eqb-true}
+use Rattle.std.proofs.lemmas.List.{take_all, get_or-take, take-append-le, take-append-drop, length-take-le, get_or_append_left}
 use Rattle.std.proofs.Math.Seq.{drop-append_seam}
 use Rattle.std.proofs.lemmas.Fmt.{decimal_is_IsNumeral, decimal_nonempty, decimal_injective}
 use Rattle.std.proofs.lemmas.Str.Parse.{digit_at, digit_from_value}
@@ -71,7 +69,7 @@ pub plain_found : (word : List ℕ) (n end : ℕ) → end ≤ length word → (e
 plain_found word n end le some digits value lt padded =
     let l : length (take end word) ≡ end = length-take-le end word le in
     let at : get_or (take end word) 0 0 ≡ get_or word 0 0 = get_or-take end word 0 0 (omega arith) in
-    let one : get_or (take end word) 0 0 ≡ 48 → length (take end word) ≡ 1 = λ e. (elim (cases_lt 1 end) [ | inl more ↦ absurd (padded more (sym at ∙ e)) | inr less ↦ omega arith ]) in
+    let one : get_or (take end word) 0 0 ≡ 48 → length (take end word) ≡ 1 = λ e. (elim (cases_lt 1 end) [ inl more ↦ absurd (padded more (sym at ∙ e)) | inr less ↦ omega arith ]) in
     sym (take-append-drop end word) ∙ ap (λ (t : List ℕ). t ++ drop end word) (spelled (take end word) n digits (omega arith) one (omega arith) (sym value))
 
 pub plain_no_digit : (word : List ℕ) (n end m : ℕ) (more : List ℕ) → end ≡ 0 → n ≡ digits_value 10 (take end word) → (end < length word → n < 1000000000 → IsInRange 48 57 (get_or word end 0) → ⊥) → m < 10000000000 → word ≡ decimal m ++ more → ⊥

@@ -1,5 +1,5 @@
 -- A word takes two bytes at least, with what ends it.
-use Rattle.std.proofs.Common.{◌≡◌, ℕ, zero, suc, ◌+◌, ◌*◌, ◌≤◌, ◌==◌, Bool, true, false, cond, List, [], ◌∷◌, length, refl, sym, ap, ◌∙◌, subst, arith}
+use Rattle.std.proofs.Common.{◌≡◌, ℕ, ◌+◌, ◌*◌, ◌≤◌, ◌==◌, Bool, true, false, cond, List, [], ◌∷◌, length, arith}
 use Rattle.std.specs.List.{slice_split, onto_first}
 use Rattle.text_rows.specs.Words.{is_space, without_empty, tokens}
 use Rattle.text_rows.specs.Lines.{without_return, fed, free_lines}

@@ -1,10 +1,9 @@
-use Rattle.std.proofs.Common.{arith, ◌≡◌, ◌<◌, ◌≤◌, ◌+◌, ◌++◌, ◌∷◌, [], ◌∙◌, sym, ap, subst, length, true, List, ℕ}
+use Rattle.std.proofs.Common.{arith, ◌≡◌, ◌++◌, ◌∷◌, ◌∙◌, sym, ap, subst, true, List, ℕ}
 use Rattle.std.specs.Prelude.{codes}
 use Rattle.std.proofs.lemmas.Bool.{false≢true}
 use Rattle.clause_arena.specs.Clauses.{Clause}
 use Rattle.clause_arena.specs.Formulas.{are_within}
 use Rattle.text_rows.specs.Lines.{free_lines}
-use Rattle.dimacs_text.specs.Texts.{IsFormulaText}
 use Rattle.dimacs_text.proofs.CnfLemmas.{err_read, line_first, end_first, read_found, limit_found, lrat_none}
 use Rattle.dimacs_text.proofs.SizeLemmas.{few_of_text}
 use Rattle.dimacs_text.proofs.cnf.read_cnf.Goals as goal
@@ -33,7 +32,7 @@ returns-then-not-is_whole-clause-read c =
     let b = c.in-Ok-read_body.ensures.body in
     let at = rw c.in-None.is at b.5 in
     end_first f.0 f.1 head.variables head.clauses _ all b.0 b.1 b.2 f.2 (f.3 ∙ ap (λ (t : List (List ℕ)). f.0 ++ f.1 ∷ t) at.0) (omega (arith, at.1, f.4)) b.4
-      (λ n o. false≢true (sym c.if-not-is_whole.true ∙ (c.is_whole.ensures b.1 b.2 b.3).1 (n, o)))
+    (λ n o. false≢true (sym c.if-not-is_whole.true ∙ (c.is_whole.ensures b.1 b.2 b.3).1 (n, o)))
 
 pub overflow_cast-result : goal.overflow_cast-result
 overflow_cast-result c =

@@ -1,4 +1,4 @@
-use Rattle.std.proofs.Common.{arith, refl, ◌-◌, length-append, ◌≡◌, ◌<◌, ◌≤◌, ◌+◌, ◌++◌, ◌∷◌, [], ◌∙◌, sym, ap, subst, length, true, List, ℕ}
+use Rattle.std.proofs.Common.{arith, length-append, ◌≡◌, ◌++◌, ◌∷◌, ◌∙◌, sym, ap, subst, length, true, List, ℕ}
 use Rattle.std.specs.Prelude.{codes}
 use Rattle.std.proofs.lemmas.Bool.{false≢true}
 use Rattle.clause_arena.specs.Clauses.{Clause}
@@ -6,7 +6,7 @@ use Rattle.clause_arena.specs.Formulas.{are_within}
 use Rattle.text_rows.specs.Lines.{free_lines}
 use Rattle.dimacs_text.proofs.JoinedLemmas.{joined_end}
 use Rattle.dimacs_text.proofs.JoinedReadLemmas.{joined_err, others_front, lrat_first, log_err, judged_err, joined_found}
-use Rattle.dimacs_text.proofs.CnfLemmas.{behind_front, good_begins, whole_found}
+use Rattle.dimacs_text.proofs.CnfLemmas.{behind_front, good_begins}
 use Rattle.dimacs_text.proofs.cnf.read_joined.Goals as goal
 
 pub returns-in-Err-read_body : goal.returns-in-Err-read_body

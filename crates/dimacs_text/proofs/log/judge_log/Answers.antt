@@ -1,4 +1,4 @@
-use Rattle.std.proofs.Common.{arith, refl, ap, sym, ◌∙◌, ◌≡◌, ◌+◌, ◌++◌, ◌∷◌, [], List, ℕ, length, length-append}
+use Rattle.std.proofs.Common.{arith, refl, ◌++◌, ◌∷◌, [], length-append}
 use Rattle.text_rows.specs.Lines.{free_lines}
 use Rattle.dimacs_text.proofs.LogTextLemmas.{so_far_start, so_far_step, parts_step, whole_read, first_bad}
 use Rattle.dimacs_text.proofs.log.judge_log.Goals as goal
@@ -19,10 +19,13 @@ loop-line-preserved c =
     record {
       kind = c.in-Ok.ensures.kind;
       counted = omega (arith, c.loop-line.invariant.counted, c.in-Some.ensures.shorter);
-      parts = (p.0 ++ c.in-Some.line.now ∷ [], s.0,
+      parts = (
+        p.0 ++ c.in-Some.line.now ∷ [],
+        s.0,
         parts_step p.0 c.in-Some.line.now (free_lines c.args.bytes.now) (free_lines c.loop-line.rest.now) (free_lines c.in-Some.after.now) p.2 c.in-Some.ensures.lines,
         omega (arith, p.3, length-append p.0 (c.in-Some.line.now ∷ [])),
-        so_far_step c.args.variables c.args.clauses c.requires.small p.0 p.1 s.0 c.loop-line.last c.in-Some-step.next c.in-Some.line.now p.4 s.1);
+        so_far_step c.args.variables c.args.clauses c.requires.small p.0 p.1 s.0 c.loop-line.last c.in-Some-step.next c.in-Some.line.now p.4 s.1,
+      );
     }
 
 pub returns : goal.returns
