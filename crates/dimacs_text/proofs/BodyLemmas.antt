@@ -1,5 +1,5 @@
 -- Lines behind the `p` line, one after another.
-use Rattle.std.proofs.Common.{◌≡◌, ◌≢◌, ℕ, zero, suc, ◌+◌, ◌<◌, ◌≤◌, ◌^◌, Bool, true, false, List, [], ◌∷◌, ◌++◌, length, map, refl, sym, ap, ◌∙◌, subst, arith, append_assoc}
+use Rattle.std.proofs.Common.{◌≡◌, ℕ, ◌+◌, true, false, List, [], ◌∷◌, ◌++◌, length, refl, sym, ap, ◌∙◌, arith, append_assoc}
 use Rattle.std.specs.Prelude.{codes}
 use Rattle.std.specs.Str.{bytes_eq}
 use Rattle.std.proofs.lemmas.Slice.Eq.{bytes_eq-Decides}
@@ -8,7 +8,7 @@ use Rattle.std.specs.List.{AllByRecursion, flat_map}
 use Rattle.std.proofs.lemmas.List.{append-nil}
 use Rattle.clause_arena.specs.Clauses.{Clause}
 use Rattle.clause_arena.specs.Formulas.{is_within, are_within}
-use Rattle.dimacs_text.specs.Formulas.{body_words, clauses_words, AreClauses}
+use Rattle.dimacs_text.specs.Formulas.{body_words}
 use Rattle.dimacs_text.specs.Streams.{stream, IsRoom, NoneGoOn}
 use Rattle.dimacs_text.specs.Bodies.{IsGood, NoneBegin, IsBodyBad}
 use Rattle.dimacs_text.proofs.EntryLemmas.{Words}
@@ -44,8 +44,8 @@ good_more v count good l ds ds' os os' g other e room wd wo = record {
 pub none_begin : (v count : ℕ) (good : List (List ℕ)) (l : List ℕ) (ds : List Clause) (os : Clause) → IsGood v count good ds os → NoneGoOn v count ds os (body_words l) → NoneBegin v count (good ++ l ∷ [])
 none_begin v count good l ds os g none tail all ha n e =
     none (flat_map body_words tail) all ha n
-      (stream_more ds os [] (body_words l ++ flat_map body_words tail) ∙ (ap (λ (t : Words). t ++ (body_words l ++ flat_map body_words tail)) (sym g.read)
-      ∙ (sym (flat_append good (l ∷ tail)) ∙ (ap (flat_map body_words) (sym (front_more good l tail)) ∙ e))))
+    (stream_more ds os [] (body_words l ++ flat_map body_words tail) ∙ (ap (λ (t : Words). t ++ (body_words l ++ flat_map body_words tail)) (sym g.read)
+    ∙ (sym (flat_append good (l ∷ tail)) ∙ (ap (flat_map body_words) (sym (front_more good l tail)) ∙ e))))
 
 pub body_bad : (v count front n : ℕ) (good all rest : List (List ℕ)) (l : List ℕ) (after : List (List ℕ)) (ds : List Clause) (os : Clause) → all ≡ good ++ rest → rest ≡ l ∷ after → n ≡ front + length good + 1 → IsGood v count good ds os → (l ≡ codes "lrat" → ⊥) → NoneGoOn v count ds os (body_words l) → IsBodyBad v count front all n
 body_bad v count front n good all rest l after ds os e f k g other none = record {

@@ -1,16 +1,15 @@
 -- A formula's lines together.
-use Rattle.std.proofs.Common.{◌≡◌, ◌≢◌, ℕ, zero, suc, ◌+◌, ◌-◌, ◌<◌, ◌≤◌, ◌^◌, Bool, true, false, List, [], ◌∷◌, ◌++◌, length, map, replicate, refl, sym, ap, ◌∙◌, subst, arith, append_assoc, length-append, lit<}
+use Rattle.std.proofs.Common.{◌≡◌, ℕ, zero, suc, ◌+◌, ◌-◌, ◌<◌, ◌≤◌, ◌^◌, Bool, true, false, List, [], ◌∷◌, ◌++◌, length, map, replicate, refl, sym, ap, ◌∙◌, subst, arith, append_assoc, length-append, lit<}
 use Rattle.std.specs.Prelude.{codes}
-use Rattle.std.specs.List.{AllByRecursion, flat_map}
+use Rattle.std.specs.List.{flat_map}
 use Rattle.std.specs.Fmt.{decimal}
 use Rattle.std.proofs.lemmas.Fmt.{decimal_digit, decimal_injective, decimal_nonempty}
 use Rattle.std.proofs.lemmas.List.{append-nil}
 use Rattle.clause_arena.specs.Clauses.{Clause}
-use Rattle.text_rows.specs.Words.{tokens, signed_word}
-use Rattle.proof_check.specs.Lines.{Line}
-use Rattle.dimacs_text.specs.Logs.{ended, lit_word, is_passed, LitsWithin, IsLitWithin, SpellsLog}
+use Rattle.text_rows.specs.Words.{signed_word}
+use Rattle.dimacs_text.specs.Logs.{ended, lit_word, LitsWithin, IsLitWithin}
 use Rattle.dimacs_text.specs.Formulas.{body_words, clause_words, clauses_words, AreClauses, header_words, SpellsFormula}
-use Rattle.dimacs_text.specs.Streams.{stream, IsRoom, NoneGoOn}
+use Rattle.dimacs_text.specs.Streams.{stream}
 use Rattle.std.specs.Prelude.{Err}
 use Rattle.cpog_base.specs.declared.limits.TheConstants.{VARIABLE_LIMIT}
 use Rattle.dimacs_text.specs.declared.body.Body.{Body}
@@ -19,12 +18,12 @@ use Rattle.dimacs_text.specs.declared.cnf.CnfFault.TheVariants as faults
 use Rattle.dimacs_text.specs.CnfTexts.{IsFrontRead, IsCnfRead}
 use Rattle.dimacs_text.specs.Bodies.{IsGood, NoneBegin, IsBodyRead}
 use Rattle.text_rows.specs.FirstBad.{IsFirstBad}
-use Rattle.dimacs_text.specs.Texts.{IsFormulaText, IsFront, SpellsJoined}
+use Rattle.dimacs_text.specs.Texts.{IsFormulaText, IsFront}
 use Rattle.dimacs_text.proofs.EntryLemmas.{Words, heads, tails, told, lits_tell, ended_told, same_items}
-use Rattle.text_rows.proofs.PlainLemmas.{digit_in, no_minus}
-use Rattle.dimacs_text.proofs.StreamLemmas.{lits_within, clauses_within, whole_told, none_go_on, stream_more, flat_end}
+use Rattle.text_rows.proofs.PlainLemmas.{digit_in}
+use Rattle.dimacs_text.proofs.StreamLemmas.{lits_within, clauses_within, whole_told, none_go_on, stream_more}
 use Rattle.dimacs_text.proofs.BodyLemmas.{flat_append, none_begin}
-use Rattle.dimacs_text.proofs.FrontLemmas.{AllPassed, spells_behind, spells_before}
+use Rattle.dimacs_text.proofs.FrontLemmas.{spells_behind, spells_before}
 
 -- so many lines `0` give so many empty clauses
 zeros : (k : ℕ) → flat_map body_words (replicate k (codes "0")) ≡ clauses_words (replicate k [])
@@ -58,13 +57,16 @@ completed v count good ds os g = by (count - length ds) refl
         let n : length ds ≡ count = omega (arith, e, g.left.most) in
         let none : os ≡ [] = g.left.full n in
         ([], ds, clauses_within v ds g.within, n, ap (flat_map body_words) (append-nil good) ∙ (g.read ∙ (ap (λ (o : Clause). stream ds o []) none ∙ append-nil (clauses_words ds))))
-    by (suc k) e =
-        (codes "0" ∷ replicate k (codes "0"), ds ++ (os ∷ replicate k []), all_both v ds (os ∷ replicate k []) (clauses_within v ds g.within) (lits_within v os g.open_within, empties v k),
-         omega (arith, e, length-append ds (os ∷ replicate k []), length_replicate k),
-         flat_append good (codes "0" ∷ replicate k (codes "0"))
-         ∙ (ap (λ (t : Words). t ++ flat_map body_words (codes "0" ∷ replicate k (codes "0"))) g.read
-         ∙ (sym (stream_more ds os [] (flat_map body_words (codes "0" ∷ replicate k (codes "0"))))
-         ∙ (ap (λ (t : Words). stream ds os t) (zeros (suc k)) ∙ closed k))))
+    by (suc k) e = (
+      codes "0" ∷ replicate k (codes "0"),
+      ds ++ (os ∷ replicate k []),
+      all_both v ds (os ∷ replicate k []) (clauses_within v ds g.within) (lits_within v os g.open_within, empties v k),
+      omega (arith, e, length-append ds (os ∷ replicate k []), length_replicate k),
+      flat_append good (codes "0" ∷ replicate k (codes "0"))
+          ∙ (ap (λ (t : Words). t ++ flat_map body_words (codes "0" ∷ replicate k (codes "0"))) g.read
+          ∙ (sym (stream_more ds os [] (flat_map body_words (codes "0" ∷ replicate k (codes "0"))))
+          ∙ (ap (λ (t : Words). stream ds os t) (zeros (suc k)) ∙ closed k))),
+    )
       where
         closed : (k : ℕ) → stream ds os (clauses_words (replicate (suc k) [])) ≡ clauses_words (ds ++ (os ∷ replicate k []))
         closed k = ap (λ (t : Words). clauses_words ds ++ t) (sym (append_assoc (map lit_word os) (decimal 0 ∷ []) (clauses_words (replicate k [])))) ∙ sym (flat_clauses ds (os ∷ replicate k []))
@@ -118,6 +120,7 @@ not_whole front p v count good ds os f g wanting t =
     nothing : (xs ys t : Words) → xs ≡ ys ++ (decimal 0 ∷ t) → xs ≡ [] → ⊥
     nothing xs [] t h z = absurd cc
     nothing xs (y ∷ ys) t h z = absurd cc
+
     left : (o : Clause) (rest : List Clause) → length ds + length rest ≡ count → map lit_word o ++ [] ≡ clauses_words rest → LitsWithin v o → AreClauses v rest → (length ds ≡ count → o ≡ [] → ⊥) → ⊥
     left [] [] n h wo wr w = w (omega (arith, n)) refl
     left (l ∷ o) [] n h wo wr w = absurd cc
@@ -198,6 +201,8 @@ limit_found front p v count all good ds os f e g n none over = (v, ds, whole_fou
 -- a whole formula, kept as these clauses
 pub read_found : (front : List (List ℕ)) (p : List ℕ) (v count : ℕ) (all good : List (List ℕ)) (ds cs : List Clause) (os : Clause) → IsFront front p v count → all ≡ front ++ p ∷ good → IsGood v count good ds os → length ds ≡ count → os ≡ [] → v ≤ VARIABLE_LIMIT → cs ≡ ds
     → SpellsFormula all v cs × (v ≤ VARIABLE_LIMIT) × ((v' : ℕ) (cs' : List Clause) → SpellsFormula all v' cs' → (v' ≡ v) × (cs' ≡ cs))
-read_found front p v count all good ds cs os f e g n none fits same =
-    (subst (SpellsFormula all v) (sym same) (whole_found front p v count all good ds os f e g n none), fits,
-     λ v' cs' s. let o = only_formula front p v count all good ds os f e g none v' cs' s in (o.0, o.1 ∙ sym same))
+read_found front p v count all good ds cs os f e g n none fits same = (
+  subst (SpellsFormula all v) (sym same) (whole_found front p v count all good ds os f e g n none),
+  fits,
+  λ v' cs' s. let o = only_formula front p v count all good ds os f e g none v' cs' s in (o.0, o.1 ∙ sym same),
+)

@@ -1,5 +1,5 @@
 -- Lists of words up to `0`, and the lines of a log.
-use Rattle.std.proofs.Common.{◌≡◌, ◌≢◌, ℕ, zero, suc, ◌+◌, ◌-◌, ◌<◌, ◌≤◌, ◌^◌, Bool, true, false, List, [], ◌∷◌, ◌++◌, length, map, refl, sym, ap, ◌∙◌, subst, arith, append_assoc}
+use Rattle.std.proofs.Common.{◌≡◌, ℕ, ◌<◌, ◌≤◌, ◌^◌, Bool, true, false, List, [], ◌∷◌, ◌++◌, map, refl, sym, ap, ◌∙◌, arith, append_assoc}
 use Rattle.std.specs.Prelude.{codes}
 use Rattle.std.specs.List.{AllByRecursion}
 use Rattle.std.specs.Fmt.{decimal}
@@ -7,7 +7,7 @@ use Rattle.std.proofs.lemmas.List.{append-nil}
 use Rattle.std.proofs.lemmas.Fmt.{decimal_injective, decimal_nonempty}
 use Rattle.clause_arena.specs.Clauses.{Lit, Clause}
 use Rattle.proof_check.specs.Lines.{Line}
-use Rattle.text_rows.specs.Words.{tokens, signed_word}
+use Rattle.text_rows.specs.Words.{signed_word}
 use Rattle.dimacs_text.specs.Logs.{ended, lit_word, IsLitWithin, LitsWithin, IsId, AreIds, SpellsLine}
 use Rattle.text_rows.proofs.PlainLemmas.{no_minus, digit_in}
 
@@ -86,14 +86,14 @@ lits_tell variables small = record {
 pub ids_stop : (words : Words) (items : List ℕ) (rest : Words) → IsRead decimal IsId words items rest → ((n : ℕ) (t : Words) → n < 10000000000 → rest ≡ decimal n ∷ t → (n ≡ 0 → ⊥) × (n < 4294967296 → ⊥)) → (ns : List ℕ) (ws : Words) → AreIds ns → words ≡ ended (map decimal ns) ++ ws → ⊥
 ids_stop words items rest r stop ns ws hn e =
     read_none decimal IsId ids_tell words items rest r
-      (λ t f. (stop 0 t (omega arith) f).0 refl)
-      (λ x t fx f. (stop x t (omega (arith, fx.1)) f).1 fx.1) ns ws hn e
+    (λ t f. (stop 0 t (omega arith) f).0 refl)
+    (λ x t fx f. (stop x t (omega (arith, fx.1)) f).1 fx.1) ns ws hn e
 
 pub lits_stop : (variables : ℕ) → variables < 10000000000 → (words : Words) (items : List Lit) (rest : Words) → IsRead lit_word (IsLitWithin variables) words items rest → ((p : Bool) (n : ℕ) (t : Words) → n < 10000000000 → (p ≡ true → 0 < n) → rest ≡ signed_word p n ∷ t → (n ≡ 0 → ⊥) × (n ≤ variables → ⊥)) → (ns : List Lit) (ws : Words) → LitsWithin variables ns → words ≡ ended (map lit_word ns) ++ ws → ⊥
 lits_stop variables small words items rest r stop ns ws hn e =
     read_none lit_word (IsLitWithin variables) (lits_tell variables small) words items rest r
-      (λ t f. (stop false 0 t (omega arith) (λ h. let g : false ≡ true = h in absurd cc) f).0 refl)
-      (λ x t fx f. (stop x.negated x.var t (omega (arith, fx.1)) (λ h. fx.0) f).1 fx.1) ns ws hn e
+    (λ t f. (stop false 0 t (omega arith) (λ h. let g : false ≡ true = h in absurd cc) f).0 refl)
+    (λ x t fx f. (stop x.negated x.var t (omega (arith, fx.1)) (λ h. fx.0) f).1 fx.1) ns ws hn e
 
 pub same_first : (m n : ℕ) (s t rest : Words) → m < 10000000000 → n < 10000000000 → rest ≡ decimal m ∷ s → rest ≡ decimal n ∷ t → m ≡ n
 same_first m n s t rest lm ln e f = let g : (decimal m ∷ s) ≡ (decimal n ∷ t) = sym e ∙ f in decimal_injective m n (omega arith) (omega arith) (let h : decimal m ≡ decimal n = cc in h)

@@ -1,16 +1,13 @@
 -- The lines up to the `p` line.
-use Rattle.std.proofs.Common.{◌≡◌, ℕ, zero, suc, ◌+◌, ◌<◌, Bool, true, false, List, [], ◌∷◌, ◌++◌, length, refl, sym, ap, ◌∙◌, subst, arith, append_assoc, lit<}
+use Rattle.std.proofs.Common.{◌≡◌, ℕ, true, List, [], ◌∷◌, ◌++◌, refl, sym, ap, arith, lit<}
 use Rattle.std.specs.Prelude.{codes}
 use Rattle.std.specs.List.{AllByRecursion}
-use Rattle.std.specs.Fmt.{decimal}
 use Rattle.std.proofs.lemmas.Fmt.{decimal_digit}
-use Rattle.std.proofs.lemmas.List.{append-nil}
 use Rattle.clause_arena.specs.Clauses.{Clause}
 use Rattle.text_rows.specs.Words.{tokens}
 use Rattle.dimacs_text.specs.Logs.{is_passed}
 use Rattle.dimacs_text.specs.Formulas.{header_words, SpellsFormula}
-use Rattle.text_rows.specs.FirstBad.{IsFirstBad}
-use Rattle.dimacs_text.specs.Texts.{IsFormulaText, IsFront}
+use Rattle.dimacs_text.specs.Texts.{IsFormulaText}
 
 abbrev pub AllPassed : List (List ℕ) → Type 0
 AllPassed front = AllByRecursion (λ l. is_passed l ≡ true) front
@@ -33,4 +30,3 @@ begins_all front h = (codes "p cnf 0 0" ∷ [], (0, [], spells_before front (cod
   where
     words : tokens (codes "p cnf 0 0") ≡ header_words 0 0
     words = ap (λ (d : List ℕ). codes "p" ∷ codes "cnf" ∷ d ∷ d ∷ []) (sym (decimal_digit 0 (lit< tt)))
-

@@ -1,15 +1,13 @@
 -- A formula with a log behind it: where the line `lrat` stands.
-use Rattle.std.proofs.Common.{◌≡◌, ℕ, zero, suc, ◌+◌, ◌<◌, Bool, true, false, List, [], ◌∷◌, ◌++◌, length, refl, sym, ap, ap₂, ◌∙◌, subst, arith, append_assoc}
+use Rattle.std.proofs.Common.{◌≡◌, ℕ, ◌+◌, ◌<◌, false, List, [], ◌∷◌, ◌++◌, length, refl, sym, ap, ap₂, ◌∙◌, subst, append_assoc}
 use Rattle.std.specs.Prelude.{codes}
 use Rattle.std.proofs.lemmas.Bool.{false≢true}
 use Rattle.std.proofs.lemmas.List.{append-nil}
-use Rattle.clause_arena.specs.Clauses.{Clause}
 use Rattle.text_rows.specs.Words.{tokens}
 use Rattle.text_rows.specs.FirstBad.{IsFirstBad}
-use Rattle.proof_check.specs.Lines.{Line}
-use Rattle.dimacs_text.specs.Logs.{is_passed, SpellsLog}
+use Rattle.dimacs_text.specs.Logs.{is_passed}
 use Rattle.dimacs_text.specs.Formulas.{header_words, SpellsFormula}
-use Rattle.dimacs_text.specs.Texts.{IsFormulaText, SpellsJoined, IsJoinedText, IsFront}
+use Rattle.dimacs_text.specs.Texts.{IsFormulaText, IsJoinedText}
 use Rattle.dimacs_text.proofs.BodyLemmas.{AllOthers}
 use Rattle.dimacs_text.proofs.FrontLemmas.{AllPassed, spells_behind, begins_all}
 
@@ -78,10 +76,13 @@ front_bad front all rest l more k h e f p n none = (bad, joined)
   where
     parts : all ≡ front ++ l ∷ more
     parts = e ∙ ap (λ (t : List (List ℕ)). front ++ t) f
+
     no_text : (tail : List (List ℕ)) → IsFormulaText (front ++ l ∷ tail) → ⊥
     no_text tail t = let s = rw p at (spells_behind front (l ∷ tail) t.0 t.1 h t.2) in none t.0 (length t.1) s.0 s.1 s.2
+
     bad : IsFirstBad IsFormulaText all k
     bad = record { good = front; after = l ∷ more; parts = parts; number = n; begins = begins_all front h; none = no_text }
+
     no_joined : (tail : List (List ℕ)) → IsJoinedText (front ++ l ∷ tail) → ⊥
     no_joined tail t =
         let s = t.3 in
@@ -93,6 +94,7 @@ front_bad front all rest l more k h e f p n none = (bad, joined)
         go (y ∷ f) a g sf =
             let same : l ≡ y = cc in
             no_text f (t.0, t.1, subst (λ (ls : List (List ℕ)). SpellsFormula ls t.0 t.1) (a ∙ ap (λ (b : List ℕ). front ++ b ∷ f) (sym same)) sf)
+
     joined : IsFirstBad IsJoinedText all k
     joined = record { good = front; after = l ∷ more; parts = parts; number = n; begins = joined_begins front (begins_all front h); none = no_joined }
 
@@ -101,6 +103,7 @@ front_end front all rest k h e f n = (bad, joined_end all k front parts n (passe
   where
     parts : all ≡ front
     parts = e ∙ (ap (λ (t : List (List ℕ)). front ++ t) f ∙ append-nil front)
+
     bad : IsFirstBad IsFormulaText all k
     bad = record {
       good = front;

@@ -1,6 +1,6 @@
 -- A formula and a log together.
-use Rattle.std.proofs.Common.{◌≡◌, ℕ, zero, suc, ◌+◌, ◌-◌, ◌<◌, ◌≤◌, Bool, true, false, List, [], ◌∷◌, ◌++◌, length, refl, sym, ap, ◌∙◌, subst, arith, append_assoc, length-append}
-use Rattle.std.specs.Prelude.{codes, Result, Ok, Err}
+use Rattle.std.proofs.Common.{◌≡◌, ℕ, ◌+◌, ◌-◌, ◌<◌, ◌≤◌, List, [], ◌∷◌, ◌++◌, length, refl, sym, ap, ◌∙◌, subst, arith, append_assoc, length-append}
+use Rattle.std.specs.Prelude.{codes, Err}
 use Rattle.std.specs.List.{flat_map}
 use Rattle.std.proofs.lemmas.List.{append-nil}
 use Rattle.clause_arena.specs.Clauses.{Clause}
@@ -14,14 +14,14 @@ use Rattle.dimacs_text.specs.declared.cnf.CnfFault.TheVariants as faults
 use Rattle.dimacs_text.specs.declared.log.LogFault.{LogFault}
 use Rattle.dimacs_text.specs.declared.log.LogFault.TheVariants as log_faults
 use Rattle.dimacs_text.specs.Logs.{SpellsLog}
-use Rattle.dimacs_text.specs.LogTexts.{IsLogText, IsLogRead}
+use Rattle.dimacs_text.specs.LogTexts.{IsLogText, IsLogRead, IsLogJudged}
 use Rattle.dimacs_text.specs.Formulas.{body_words, header_words, SpellsFormula}
 use Rattle.dimacs_text.specs.Texts.{IsFormulaText, SpellsJoined, IsJoinedText, IsFront}
 use Rattle.dimacs_text.specs.Bodies.{IsGood, IsBodyRead}
-use Rattle.dimacs_text.specs.CnfTexts.{fault_of, IsJoinedRead}
+use Rattle.dimacs_text.specs.CnfTexts.{fault_of, IsJudgedFault, IsJoinedRead}
 use Rattle.dimacs_text.proofs.EntryLemmas.{heads}
 use Rattle.dimacs_text.proofs.BodyLemmas.{AllOthers}
-use Rattle.dimacs_text.proofs.JoinedLemmas.{split_front, passed_others, joined_begins, joined_bad, joined_end}
+use Rattle.dimacs_text.proofs.JoinedLemmas.{split_front, passed_others, joined_begins, joined_bad}
 use Rattle.dimacs_text.proofs.CnfLemmas.{behind_front, good_begins, formula_behind, whole_found, only_formula, not_whole, lrat_none}
 
 others_both : (xs ys : List (List ℕ)) → AllOthers xs → AllOthers ys → AllOthers (xs ++ ys)
@@ -85,8 +85,10 @@ log_first front p v count before n all good rest ds os f e k g whole none le b =
   where
     behind : (tail : List (List ℕ)) → ((front ++ p ∷ good) ++ codes "lrat" ∷ b.good) ++ tail ≡ (front ++ p ∷ good) ++ codes "lrat" ∷ (b.good ++ tail)
     behind tail = append_assoc (front ++ p ∷ good) (codes "lrat" ∷ b.good) tail
+
     log_of : (ls : List (List ℕ)) → IsJoinedText ((front ++ p ∷ good) ++ codes "lrat" ∷ ls) → IsLogText v (length ds) ls
     log_of ls t = (t.2, (joined_told front p v count good ds os f g none ls t.0 t.1 t.2 t.3).2)
+
     none_of : (after : List (List ℕ)) → NoneBegins (IsLogText v (length ds)) b.good after → NoneBegins IsJoinedText ((front ++ p ∷ good) ++ codes "lrat" ∷ b.good) after
     none_of [] h = λ t. h (log_of b.good t)
     none_of (l ∷ after) h = λ more t. h more (log_of (b.good ++ l ∷ more) (subst IsJoinedText (behind (l ∷ more)) t))
@@ -95,8 +97,8 @@ pub joined_err : (v count k : ℕ) (front : List (List ℕ)) (p : List ℕ) (all
 joined_err v count k front p all lines body (faults.BadLine n) f e m b =
     let others = others_front front p v count b.good b.clauses b.open_lits f b.is_good in
     joined_bad all n (front ++ p ∷ b.good) b.line b.after
-      (e ∙ (ap (λ (t : List (List ℕ)). front ++ p ∷ t) b.parts ∙ sym (behind_front front p b.good (b.line ∷ b.after))))
-      (omega (arith, b.number, m, length-append front (p ∷ b.good))) others b.other (good_begins front p v count b.good b.clauses b.open_lits f b.is_good) none_of
+    (e ∙ (ap (λ (t : List (List ℕ)). front ++ p ∷ t) b.parts ∙ sym (behind_front front p b.good (b.line ∷ b.after))))
+    (omega (arith, b.number, m, length-append front (p ∷ b.good))) others b.other (good_begins front p v count b.good b.clauses b.open_lits f b.is_good) none_of
   where
     none_of : (more : List (List ℕ)) → IsFormulaText ((front ++ p ∷ b.good) ++ b.line ∷ more) → ⊥
     none_of more t =
@@ -109,15 +111,30 @@ joined_err v count k front p all lines body faults.Memory f e m b = tt
 pub joined_found : (front : List (List ℕ)) (p : List ℕ) (v count n first : ℕ) (all good rest : List (List ℕ)) (ds cs : List Clause) (os : Clause) (log : List Line) → IsFront front p v count → all ≡ (front ++ p ∷ good) ++ codes "lrat" ∷ rest → IsGood v count good ds os → length ds ≡ count → os ≡ [] → v ≤ VARIABLE_LIMIT → cs ≡ ds
     → n ≡ length cs → SpellsLog v n rest log → first ≡ n → ((other : List Line) → SpellsLog v n rest other → other ≡ log)
     → SpellsJoined all v cs log × (v ≤ VARIABLE_LIMIT) × (first ≡ length cs) × ((v' : ℕ) (cs' : List Clause) (log' : List Line) → SpellsJoined all v' cs' log' → (v' ≡ v) × (cs' ≡ cs) × (log' ≡ log))
-joined_found front p v count n first all good rest ds cs os log f e g whole none fits same counted spells at only =
-    ((front ++ p ∷ good, rest, e, subst (SpellsFormula (front ++ p ∷ good) v) (sym same) (whole_found front p v count (front ++ p ∷ good) good ds os f refl g whole none), subst (λ (k : ℕ). SpellsLog v k rest log) counted spells),
-     fits, at ∙ counted,
-     λ v' cs' log' s.
-       let t = joined_told front p v count good ds os f g none rest v' cs' log' (subst (λ (ls : List (List ℕ)). SpellsJoined ls v' cs' log') e s) in
-       (t.0, t.1 ∙ sym same, only log' (subst (λ (k : ℕ). SpellsLog v k rest log') (ap length (sym same) ∙ sym counted) t.2)))
+joined_found front p v count n first all good rest ds cs os log f e g whole none fits same counted spells at only = (
+  (front ++ p ∷ good, rest, e, subst (SpellsFormula (front ++ p ∷ good) v) (sym same) (whole_found front p v count (front ++ p ∷ good) good ds os f refl g whole none), subst (λ (k : ℕ). SpellsLog v k rest log) counted spells),
+  fits,
+  at ∙ counted,
+  λ v' cs' log' s.
+      let t = joined_told front p v count good ds os f g none rest v' cs' log' (subst (λ (ls : List (List ℕ)). SpellsJoined ls v' cs' log') e s) in
+      (t.0, t.1 ∙ sym same, only log' (subst (λ (k : ℕ). SpellsLog v k rest log') (ap length (sym same) ∙ sym counted) t.2)),
+)
 
 -- a fault of the log
 pub log_err : (front : List (List ℕ)) (p : List ℕ) (v count before k : ℕ) (all good rest : List (List ℕ)) (ds : List Clause) (os : Clause) (fault : LogFault) → IsFront front p v count → all ≡ (front ++ p ∷ good) ++ codes "lrat" ∷ rest → before ≡ length front + 1 + length good + 1 → IsGood v count good ds os → length ds ≡ count → os ≡ [] → k ≡ length ds → IsLogRead v k rest before (Err fault) → IsJoinedRead all (Err (fault_of fault))
 log_err front p v count before k all good rest ds os (log_faults.BadLine n) f e at g whole none counted bad =
     log_first front p v count before n all good rest ds os f e at g whole none bad.0 (subst (λ (m : ℕ). IsFirstBad (IsLogText v m) rest (n - before)) counted bad.1)
 log_err front p v count before k all good rest ds os log_faults.Memory f e at g whole none counted bad = tt
+
+-- a fault of a log that is only judged
+pub fault_judged : (v c before : ℕ) (lines : List (List ℕ)) (fault : LogFault) → IsLogJudged v c lines before (Err fault) → IsJudgedFault v c lines before (fault_of fault)
+fault_judged v c before lines (log_faults.BadLine n) h = h
+fault_judged v c before lines log_faults.Memory h = tt
+
+-- and the text with it
+pub judged_err : (front : List (List ℕ)) (p : List ℕ) (v count before : ℕ) (all good rest : List (List ℕ)) (ds : List Clause) (os : Clause) (fault : CnfFault) → IsFront front p v count → all ≡ (front ++ p ∷ good) ++ codes "lrat" ∷ rest → before ≡ length front + 1 + length good + 1 → IsGood v count good ds os → length ds ≡ count → os ≡ [] → VARIABLE_LIMIT < v → IsJudgedFault v count rest before fault → IsJoinedRead all (Err fault)
+judged_err front p v count before all good rest ds os (faults.BadLine n) f e at g whole none over bad =
+    log_first front p v count before n all good rest ds os f e at g whole none bad.0 (subst (λ (m : ℕ). IsFirstBad (IsLogText v m) rest (n - before)) (sym whole) bad.1)
+judged_err front p v count before all good rest ds os faults.Limit f e at g whole none over t =
+    (v, ds, t.0, (front ++ p ∷ good, rest, e, whole_found front p v count (front ++ p ∷ good) good ds os f refl g whole none, subst (λ (m : ℕ). SpellsLog v m rest t.0) (sym whole) t.1), over)
+judged_err front p v count before all good rest ds os faults.Memory f e at g whole none over t = tt

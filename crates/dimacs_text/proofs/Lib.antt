@@ -7,3 +7,4 @@ pub mod CnfLemmas
 pub mod JoinedLemmas
 pub mod JoinedReadLemmas
 pub mod WritingLemmas
+pub mod SizeLemmas

@@ -1,15 +1,12 @@
 -- A log's text as far as it was read.
-use Rattle.std.proofs.Common.{◌≡◌, ◌≢◌, ℕ, zero, suc, ◌+◌, ◌-◌, ◌<◌, ◌≤◌, ◌^◌, Bool, true, false, List, [], ◌∷◌, ◌++◌, length, map, refl, sym, ap, ap₂, ◌∙◌, subst, arith, append_assoc, length-append}
-use Rattle.std.specs.Prelude.{codes}
-use Rattle.std.specs.Fmt.{decimal}
+use Rattle.std.proofs.Common.{◌≡◌, ℕ, ◌+◌, ◌<◌, Bool, true, false, List, [], ◌∷◌, ◌++◌, length, refl, sym, ap, ap₂, ◌∙◌, subst, append_assoc}
 use Rattle.std.proofs.lemmas.List.{append-nil}
-use Rattle.clause_arena.specs.Clauses.{Lit, Clause}
-use Rattle.proof_check.specs.Lines.{Line, last_id, numbers, numbers_of}
-use Rattle.text_rows.specs.Words.{tokens, signed_word}
-use Rattle.dimacs_text.specs.Logs.{ended, lit_word, IsLitWithin, LitsWithin, IsId, AreIds, SpellsLine, SpellsIf, SpellsLog, is_passed, id_after}
-use Rattle.text_rows.specs.FirstBad.{IsFirstBad, NoneBegins}
+use Rattle.proof_check.specs.Lines.{Line, last_id}
+use Rattle.text_rows.specs.Words.{tokens}
+use Rattle.dimacs_text.specs.Logs.{SpellsLine, SpellsIf, SpellsLog, is_passed, id_after}
+use Rattle.text_rows.specs.FirstBad.{IsFirstBad}
 use Rattle.dimacs_text.specs.LogTexts.{StepTo, StepBad, IsLogText}
-use Rattle.dimacs_text.proofs.EntryLemmas.{Words, line_told}
+use Rattle.dimacs_text.proofs.EntryLemmas.{line_told}
 
 -- a text of these lines and more spells these lines of a log and more
 pub record IsSoFar (variables clauses : ℕ) (good : List (List ℕ)) (lines : List Line) (last : ℕ) : Type 0 where
@@ -36,7 +33,7 @@ so_far_more variables clauses small good lines last l e s p spells = record {
   back = λ tail more t.
       let here : SpellsLog variables last (l ∷ tail) (e ∷ more) = rw p (e, more, refl, spells, t) in
       subst (λ (all : List Line). SpellsLog variables clauses ((good ++ l ∷ []) ++ tail) all) (sym (lines_more lines e more))
-        (subst (λ (ls : List (List ℕ)). SpellsLog variables clauses ls (lines ++ (e ∷ more))) (sym (front_more good l tail)) (s.back (l ∷ tail) (e ∷ more) here));
+      (subst (λ (ls : List (List ℕ)). SpellsLog variables clauses ls (lines ++ (e ∷ more))) (sym (front_more good l tail)) (s.back (l ∷ tail) (e ∷ more) here));
   forth = λ tail all t.
       let f = s.forth (l ∷ tail) all (subst (λ (ls : List (List ℕ)). SpellsLog variables clauses ls all) (front_more good l tail) t) in
       let g : (d : Line) × (others : List Line) × (f.0 ≡ d ∷ others) × SpellsLine variables last d (tokens l) × SpellsLog variables (id_after last d) tail others = rw p at f.2 in
@@ -57,9 +54,10 @@ parts_step good l all now rest e f = e ∙ (ap (λ (t : List (List ℕ)). good +
 -- the whole text
 pub whole_read : (variables clauses : ℕ) (good all rest : List (List ℕ)) (lines : List Line) (last : ℕ) → IsSoFar variables clauses good lines last → all ≡ good ++ rest → rest ≡ [] → SpellsLog variables clauses all lines × ((other : List Line) → SpellsLog variables clauses all other → other ≡ lines)
 whole_read variables clauses good all rest lines last s e none =
-    let whole : all ≡ good ++ [] = e ∙ ap (λ (t : List (List ℕ)). good ++ t) none in
-    (subst (λ (ls : List (List ℕ)). SpellsLog variables clauses ls lines) (sym whole) (subst (λ (x : List Line). SpellsLog variables clauses (good ++ []) x) (append-nil lines) (s.back [] [] refl)),
-     λ other h. let f = s.forth [] other (subst (λ (ls : List (List ℕ)). SpellsLog variables clauses ls other) whole h) in f.1 ∙ (ap (λ (x : List Line). lines ++ x) f.2 ∙ append-nil lines))
+    let whole : all ≡ good ++ [] = e ∙ ap (λ (t : List (List ℕ)). good ++ t) none in (
+      subst (λ (ls : List (List ℕ)). SpellsLog variables clauses ls lines) (sym whole) (subst (λ (x : List Line). SpellsLog variables clauses (good ++ []) x) (append-nil lines) (s.back [] [] refl)),
+      λ other h. let f = s.forth [] other (subst (λ (ls : List (List ℕ)). SpellsLog variables clauses ls other) whole h) in f.1 ∙ (ap (λ (x : List Line). lines ++ x) f.2 ∙ append-nil lines),
+    )
 
 no_step : (variables last : ℕ) (l : List ℕ) (tail : List (List ℕ)) (all : List Line) (b : Bool) → SpellsIf b ⊥ ((e : Line) → SpellsLine variables last e (tokens l) → ⊥) → SpellsIf b (SpellsLog variables last tail all) ((e : Line) × (others : List Line) × (all ≡ e ∷ others) × SpellsLine variables last e (tokens l) × SpellsLog variables (id_after last e) tail others) → ⊥
 no_step variables last l tail all true bad h = bad
@@ -88,6 +86,14 @@ step_more variables last line old new next e p spells is n = rw p (e, spells, is
 
 pub push_step : (variables last first first' : ℕ) (line : List ℕ) (old new : List Line) (e : Line) → is_passed line ≡ false → SpellsLine variables last e (tokens line) → first' ≡ first → last_id first old ≡ last → new ≡ old ++ e ∷ []
     → StepTo variables last line old new (id_after last e) × (last_id first' new ≡ id_after last e)
-push_step variables last first first' line old new e p spells f l is =
-    (step_more variables last line old new (id_after last e) e p spells is refl,
-     ap₂ (λ (k : ℕ) (ls : List Line). last_id k ls) f is ∙ (last_push first old e ∙ ap (λ (k : ℕ). id_after k e) l))
+push_step variables last first first' line old new e p spells f l is = (
+  step_more variables last line old new (id_after last e) e p spells is refl,
+  ap₂ (λ (k : ℕ) (ls : List Line). last_id k ls) f is ∙ (last_push first old e ∙ ap (λ (k : ℕ). id_after k e) l),
+)
+
+-- a line that is judged alone
+pub judged_passed : (variables last : ℕ) (line : List ℕ) → is_passed line ≡ true → (old : List Line) → (new : List Line) × StepTo variables last line old new last
+judged_passed variables last line p old = (old, rw p (refl, refl))
+
+pub judged_more : (variables last : ℕ) (line : List ℕ) (e : Line) → is_passed line ≡ false → SpellsLine variables last e (tokens line) → (old : List Line) → (new : List Line) × StepTo variables last line old new (id_after last e)
+judged_more variables last line e p spells old = (old ++ e ∷ [], step_more variables last line old (old ++ e ∷ []) (id_after last e) e p spells refl refl)

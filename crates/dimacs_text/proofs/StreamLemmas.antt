@@ -1,13 +1,11 @@
 -- Clauses as far as they were read, and what may go on.
-use Rattle.std.proofs.Common.{◌≡◌, ◌≢◌, ℕ, zero, suc, ◌+◌, ◌-◌, ◌<◌, ◌≤◌, ◌^◌, Bool, true, false, cond, eqb, leb, List, [], ◌∷◌, ◌++◌, length, map, refl, sym, ap, ap₂, ◌∙◌, subst, arith, append_assoc, length-append, inl, inr}
-use Rattle.std.specs.List.{AllByRecursion, flat_map, list_all}
+use Rattle.std.proofs.Common.{◌≡◌, ℕ, ◌+◌, ◌<◌, ◌≤◌, Bool, true, false, leb, List, [], ◌∷◌, ◌++◌, length, map, refl, sym, ap, ap₂, ◌∙◌, arith, append_assoc, length-append, inl, inr}
 use Rattle.std.specs.Fmt.{decimal}
 use Rattle.std.proofs.lemmas.List.{append-nil}
 use Rattle.std.proofs.lemmas.Bool.{and_parts, leb-true, le-leb, cases_eq, eq-eqb, ne_eqb}
-use Rattle.std.proofs.lemmas.Fmt.{decimal_injective}
 use Rattle.clause_arena.specs.Clauses.{Lit, Clause}
 use Rattle.clause_arena.specs.Formulas.{is_lit_within, is_within, are_within}
-use Rattle.text_rows.specs.Words.{tokens, signed_word}
+use Rattle.text_rows.specs.Words.{signed_word}
 use Rattle.dimacs_text.specs.Logs.{ended, lit_word, IsLitWithin, LitsWithin}
 use Rattle.dimacs_text.specs.Formulas.{clause_words, clauses_words, AreClauses}
 use Rattle.std.specs.Bool.{MatchBool}
@@ -16,7 +14,7 @@ use Rattle.dimacs_text.specs.Keeping.{Holds, IsFor, IsFitting, count_of, Stands,
 use Rattle.dimacs_text.specs.declared.body.Body.{Body}
 use Rattle.dimacs_text.specs.declared.body.Body.TheVariants as bodies
 use Rattle.std.proofs.lemmas.List.Folds.{list_all-append}
-use Rattle.dimacs_text.proofs.EntryLemmas.{Words, Tells, lits_tell, told, ended_told, same_items, same_signed}
+use Rattle.dimacs_text.proofs.EntryLemmas.{Words, lits_tell, told, same_items}
 
 pub lits_within : (v : ℕ) (c : Clause) → is_within v c ≡ true → LitsWithin v c
 lits_within v [] h = tt
@@ -54,6 +52,7 @@ none_go_on v count small ds os (w ∷ words) wd wo some stop more all ha n e =
     first : (length ds < count) → (ms : List Lit) (t : Words) → LitsWithin v ms → (w ∷ (words ++ more)) ≡ map lit_word ms ++ (decimal 0 ∷ t) → ⊥
     first lt [] t hm f = (stop lt false 0 words (omega arith) (λ h. let g : false ≡ true = h in absurd cc) (ap (λ (x : List ℕ). x ∷ words) (let g : w ≡ decimal 0 = cc in g))).0 refl
     first lt (m ∷ ms) t hm f = (stop lt m.negated m.var words (omega (arith, hm.0.1)) (λ h. hm.0.0) (ap (λ (x : List ℕ). x ∷ words) (let g : w ≡ lit_word m = cc in g))).1 hm.0.1
+
     go : (rest : List Clause) → AreClauses v rest → length all ≡ length ds + length rest → map lit_word os ++ (w ∷ (words ++ more)) ≡ clauses_words rest → ⊥
     go [] hr len f = nothing (map lit_word os) f
       where

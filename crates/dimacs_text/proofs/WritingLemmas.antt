@@ -1,20 +1,19 @@
 -- What is written is read.
-use Rattle.std.proofs.Common.{◌≡◌, ◌≢◌, ℕ, zero, suc, ◌+◌, ◌<◌, ◌≤◌, ◌^◌, Bool, true, false, eqb, ◌==◌, List, [], ◌∷◌, ◌++◌, length, map, take, get_or, slice_index_or, refl, sym, ap, ap₂, ◌∙◌, subst, arith, append_assoc, inl, inr, lit<}
+use Rattle.std.proofs.Common.{◌≡◌, ◌≢◌, ℕ, ◌+◌, ◌<◌, ◌^◌, Bool, true, false, ◌==◌, List, [], ◌∷◌, ◌++◌, length, map, take, get_or, slice_index_or, refl, sym, ap, ap₂, ◌∙◌, subst, arith, append_assoc, lit<}
 use Rattle.std.specs.Prelude.{codes, slice_index}
 use Rattle.std.specs.List.{AllByRecursion, flat_map}
 use Rattle.std.specs.Fmt.{decimal}
-use Rattle.std.specs.Int.{IsInRange}
 use Rattle.std.proofs.lemmas.Bool.{ne_eqb}
 use Rattle.std.proofs.lemmas.List.{append-nil, take_more, get_or_append_left}
 use Rattle.std.proofs.lemmas.Fmt.{decimal_nonempty, decimal_digit}
-use Rattle.clause_arena.specs.Clauses.{Lit, Clause}
+use Rattle.clause_arena.specs.Clauses.{Clause}
 use Rattle.line_text.specs.Lines.{text_of}
 use Rattle.proof_check.specs.Lines.{Line, no_line, line_at, Rise, last_id, ArePositive, LinesPositive}
 use Rattle.text_rows.specs.Words.{tokens, spaced, IsWord, signed_word}
 use Rattle.text_rows.specs.Lines.{free_lines, IsUnbroken}
 use Rattle.text_rows.proofs.PlainLemmas.{digit_in}
-use Rattle.text_rows.proofs.WritingLemmas.{words_read, lines_read, decimal_word, spaced_unbroken, unbroken_both}
-use Rattle.dimacs_text.specs.Logs.{ended, lit_word, IsLitWithin, LitsWithin, IsId, AreIds, SpellsLine, SpellsIf, SpellsLog, is_passed, id_after}
+use Rattle.text_rows.proofs.WritingLemmas.{words_read, lines_read, decimal_word, spaced_unbroken}
+use Rattle.dimacs_text.specs.Logs.{ended, lit_word, LitsWithin, AreIds, SpellsLog, is_passed}
 use Rattle.dimacs_text.specs.Formulas.{body_words, clause_words, clauses_words, AreClauses, header_words, SpellsFormula}
 use Rattle.dimacs_text.specs.Writing.{blanked, formula_lines, written_words, written_lines, log_lines, LineFits, line_within, LinesWithin}
 use Rattle.dimacs_text.proofs.EntryLemmas.{Words}
@@ -69,9 +68,9 @@ pub deletion_written : (start n1 n2 new d : List ℕ) (is : Words) → n1 ≡ st
 deletion_written start n1 n2 new d is a b f =
     let front = d ++ 32 ∷ 100 ∷ 32 ∷ [] in
     let words : spaced (d ∷ codes "d" ∷ ended is) ≡ front ++ (blanked is ++ 48 ∷ []) =
-        spaced_behind (d ∷ codes "d" ∷ is) (decimal 0) []
-        ∙ (ap (λ (z : List ℕ). ((d ++ 32 ∷ []) ++ (100 ∷ 32 ∷ blanked is)) ++ z) zero_text
-        ∙ (append_assoc (d ++ 32 ∷ []) (100 ∷ 32 ∷ blanked is) (48 ∷ []) ∙ (append_assoc d (32 ∷ []) (100 ∷ 32 ∷ (blanked is ++ 48 ∷ [])) ∙ sym (append_assoc d (32 ∷ 100 ∷ 32 ∷ []) (blanked is ++ 48 ∷ []))))) in
+    spaced_behind (d ∷ codes "d" ∷ is) (decimal 0) []
+    ∙ (ap (λ (z : List ℕ). ((d ++ 32 ∷ []) ++ (100 ∷ 32 ∷ blanked is)) ++ z) zero_text
+    ∙ (append_assoc (d ++ 32 ∷ []) (100 ∷ 32 ∷ blanked is) (48 ∷ []) ∙ (append_assoc d (32 ∷ []) (100 ∷ 32 ∷ (blanked is ++ 48 ∷ [])) ∙ sym (append_assoc d (32 ∷ 100 ∷ 32 ∷ []) (blanked is ++ 48 ∷ []))))) in
     f ∙ (ap (λ (t : List ℕ). t ++ (48 ∷ 10 ∷ [])) (b ∙ ap (λ (t : List ℕ). t ++ blanked is) a)
     ∙ (append_assoc (start ++ front) (blanked is) (48 ∷ 10 ∷ []) ∙ (append_assoc start front (blanked is ++ (48 ∷ 10 ∷ []))
     ∙ ap (λ (t : List ℕ). start ++ t) (sym (ap (λ (t : List ℕ). t ++ 10 ∷ []) words ∙ (append_assoc front (blanked is ++ 48 ∷ []) (10 ∷ []) ∙ ap (λ (t : List ℕ). front ++ t) (append_assoc (blanked is) (48 ∷ []) (10 ∷ []))))))))
@@ -108,7 +107,7 @@ pub lines_more : (lines : List Line) (i last : ℕ) (l : Line) (start now new : 
 lines_more lines i last l start now new lt at last_is e g =
     let t = take i lines in
     let written : written_lines 1 (take (i + 1) lines) ≡ written_lines 1 t ++ spaced (written_words last l) ∷ [] =
-        ap (written_lines 1) (one_more lines i l lt at) ∙ (written_more 1 t l ∙ ap (λ (k : ℕ). written_lines 1 t ++ spaced (written_words k l) ∷ []) (sym last_is)) in
+    ap (written_lines 1) (one_more lines i l lt at) ∙ (written_more 1 t l ∙ ap (λ (k : ℕ). written_lines 1 t ++ spaced (written_words k l) ∷ []) (sym last_is)) in
     g ∙ (ap (λ (x : List ℕ). x ++ (spaced (written_words last l) ++ 10 ∷ [])) e ∙ (append_assoc start (text_of (written_lines 1 t)) (spaced (written_words last l) ++ 10 ∷ [])
     ∙ ap (λ (x : List ℕ). start ++ x) (sym (ap text_of written ∙ text_more (written_lines 1 t) (spaced (written_words last l))))))
 
@@ -195,8 +194,8 @@ cnf_spelled comment text v cs e plain lv ln h =
     let ten' : 32 ≢ 10 = omega arith in
     let thirteen' : 32 ≢ 13 = omega arith in
     subst (λ (ls : Words). SpellsFormula ls v cs)
-      (sym (ap free_lines e ∙ lines_read (formula_lines comment v cs) (((ten, thirteen), ((ten', thirteen'), plain)), (spaced_unbroken (header_words v (length cs)) (header_fine v (length cs) lv ln), clauses_unbroken v lv cs h))))
-      (formula_spelled comment v cs lv ln h)
+    (sym (ap free_lines e ∙ lines_read (formula_lines comment v cs) (((ten, thirteen), ((ten', thirteen'), plain)), (spaced_unbroken (header_words v (length cs)) (header_fine v (length cs) lv ln), clauses_unbroken v lv cs h))))
+    (formula_spelled comment v cs lv ln h)
 
 -- ---- the lines of a log
 
@@ -233,4 +232,4 @@ log_unbroken v w small lw (Line.Del ids ∷ lines) f h = (spaced_unbroken (writt
 pub text_spelled : (v first : ℕ) (text : List ℕ) (lines : List Line) → text ≡ text_of (log_lines lines) → v < 10000000000 → Rise first lines → LinesPositive lines → AllByRecursion LineFits lines → LinesWithin v lines → SpellsLog v first (free_lines text) lines
 text_spelled v first text lines e small r p f h =
     subst (λ (ls : Words). SpellsLog v first ls lines) (sym (ap free_lines e ∙ lines_read (log_lines lines) (log_unbroken v 1 small (omega arith) lines f h)))
-      (log_spelled v first 1 small (omega arith) (omega arith) lines r p f h)
+    (log_spelled v first 1 small (omega arith) (omega arith) lines r p f h)

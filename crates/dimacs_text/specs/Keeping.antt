@@ -1,10 +1,12 @@
--- What the reader of a formula keeps of the clauses that it has read.
+-- What the readers keep of the clauses and lines that they have read.
 use Rattle.std.specs.Prelude.{◌≡◌, ℕ, ◌<◌, ◌≤◌, Bool, true, false, List, [], ◌∷◌, length}
-use Rattle.clause_arena.specs.Clauses.{Lit, Clause}
+use Rattle.clause_arena.specs.Clauses.{Clause}
 use Rattle.clause_arena.specs.Formulas.{is_within, are_within}
 use Rattle.cpog_base.specs.declared.limits.TheConstants.{VARIABLE_LIMIT}
 use Rattle.dimacs_text.specs.declared.body.Body.{Body}
 use Rattle.dimacs_text.specs.declared.body.Body.TheVariants as bodies
+use Rattle.dimacs_text.specs.declared.line_lits.LineLits.{LineLits}
+use Rattle.dimacs_text.specs.declared.line_lits.LineLits.TheVariants as line_lits
 use Rattle.dimacs_text.specs.Streams.{IsRoom, stream, NoneGoOn}
 
 -- some literal stands there
@@ -43,3 +45,23 @@ pub record Stands (variables count : ℕ) (body : Body) (ds : List Clause) (os :
 abbrev pub IsTaken : ℕ → ℕ → Body → Body → List (List ℕ) → Bool → Type 0
 IsTaken variables count old new words true = (ds : List Clause) (os : Clause) → Stands variables count old ds os → (ds' : List Clause) × (os' : Clause) × Stands variables count new ds' os' × (stream ds' os' [] ≡ stream ds os words)
 IsTaken variables count old new words false = (ds : List Clause) (os : Clause) → Stands variables count old ds os → NoneGoOn variables count ds os words
+
+-- it keeps these literals, or passes them over
+abbrev pub HoldsLits : LineLits → Clause → Type 0
+HoldsLits (line_lits.Kept lits) ls = lits.items ≡ ls
+HoldsLits line_lits.Passed ls = Unit {0}
+
+-- literals of so many variables can be kept
+abbrev pub IsLitsFor : ℕ → LineLits → Type 0
+IsLitsFor variables (line_lits.Kept lits) = variables ≤ VARIABLE_LIMIT
+IsLitsFor variables line_lits.Passed = Unit {0}
+
+-- a literal of this variable can be kept
+abbrev pub IsLitFitting : ℕ → LineLits → Type 0
+IsLitFitting n (line_lits.Kept lits) = n ≤ VARIABLE_LIMIT
+IsLitFitting n line_lits.Passed = Unit {0}
+
+-- literals are kept
+abbrev pub IsKept : LineLits → Type 0
+IsKept (line_lits.Kept lits) = Unit {0}
+IsKept line_lits.Passed = ⊥

@@ -1,5 +1,5 @@
 -- The text of a log.
-use Rattle.std.specs.Prelude.{◌≡◌, ℕ, ◌+◌, ◌<◌, ◌≤◌, Bool, true, false, ◌==◌, List, [], ◌∷◌, ◌++◌, length, map, codes, if◌then◌else◌, slice_index}
+use Rattle.std.specs.Prelude.{◌≡◌, ℕ, ◌<◌, ◌≤◌, Bool, true, false, ◌==◌, List, [], ◌∷◌, ◌++◌, length, map, codes, if◌then◌else◌, slice_index}
 use Rattle.std.specs.List.{AllByRecursion}
 use Rattle.std.specs.Fmt.{decimal}
 use Rattle.clause_arena.specs.Clauses.{Lit, Clause}
@@ -10,18 +10,23 @@ use Rattle.text_rows.specs.Words.{tokens, signed_word}
 abbrev pub ended : List (List ℕ) → List (List ℕ)
 ended words = words ++ decimal 0 ∷ []
 
+-- the word of a literal
 abbrev pub lit_word : Lit → List ℕ
 lit_word l = signed_word l.negated l.var
 
+-- its variable is from 1 to so many
 abbrev pub IsLitWithin : ℕ → Lit → Type 0
 IsLitWithin variables l = (0 < l.var) × (l.var ≤ variables)
 
+-- those of all literals are
 abbrev pub LitsWithin : ℕ → Clause → Type 0
 LitsWithin variables lits = AllByRecursion (IsLitWithin variables) lits
 
+-- an id or a hint: a number from 1 to 4294967295
 abbrev pub IsId : ℕ → Type 0
 IsId n = (0 < n) × (n < 4294967296)
 
+-- all are ids
 abbrev pub AreIds : List ℕ → Type 0
 AreIds ids = AllByRecursion IsId ids
 
@@ -32,6 +37,7 @@ SpellsLine variables last (Line.Add id lits hints) words =
 SpellsLine variables last (Line.Del ids) words =
     AreIds ids × ((id : ℕ) × (0 < id) × (id < 4294967296) × (words ≡ decimal id ∷ codes "d" ∷ ended (map decimal ids)))
 
+-- the id of the last addition behind one more line
 abbrev pub id_after : ℕ → Line → ℕ
 id_after last (Line.Add id lits hints) = id
 id_after last (Line.Del ids) = last
@@ -40,6 +46,7 @@ id_after last (Line.Del ids) = last
 abbrev pub is_passed : List ℕ → Bool
 is_passed line = if slice_index line 0 == 99 then true else length (tokens line) == 0
 
+-- the first where the test holds, and else the second
 abbrev pub SpellsIf : Bool → Type 0 → Type 0 → Type 0
 SpellsIf true P Q = P
 SpellsIf false P Q = Q

@@ -1,5 +1,5 @@
 -- The texts of formulas, and of a formula with a log.
-use Rattle.std.specs.Prelude.{◌≡◌, ℕ, ◌<◌, true, false, List, [], ◌∷◌, ◌++◌, length, codes}
+use Rattle.std.specs.Prelude.{◌≡◌, ℕ, ◌<◌, true, false, List, ◌∷◌, ◌++◌, length, codes}
 use Rattle.std.specs.List.{AllByRecursion}
 use Rattle.clause_arena.specs.Clauses.{Clause}
 use Rattle.proof_check.specs.Lines.{Line}

@@ -8,8 +8,8 @@ use clause_arena::{ClauseArena, Lit};
 use cpog_base::{Memory, VARIABLE_LIMIT};
 use std::alloc::Global;
 
-/// Whole clauses, and the literals of an open one. Where the formula has more variables than are taken, they are counted
-/// and not kept, so that its text is still judged to its end.
+/// Whole clauses, and the literals of an open one. Where the formula has more variables than are taken, they are
+/// counted and not kept, so that its text is still judged to its end.
 #[derive(Drop)]
 pub enum Body {
     Kept {
@@ -42,6 +42,7 @@ impl Body {
     }
 
     /// How many clauses are whole.
+    #[inline(always)]
     pub fn count(&self) -> u64
         ensures { result ≡ count_of self.now }
     {
@@ -66,6 +67,7 @@ impl Body {
     /// # Errors
     ///
     /// `Memory` where none is left.
+    #[inline(always)]
     pub fn take(&mut self, n: u64, negated: bool) -> Result<(), Memory>
         requires fits { IsFitting n self.old }
         requires few { count_of self.old < 18446744073709551615 }

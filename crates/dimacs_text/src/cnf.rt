@@ -1,14 +1,16 @@
-//! The text of a formula.
-ghost use Rattle.std.specs.Prelude.{◌≡◌, ◌+◌, ◌<◌, ◌≤◌, ◌==◌, [], ℕ, IfOk, IfSome, MatchOption, length, slice_index};
+//! The text of a formula: comments, the `p` line, and the numbers of its clauses, wherever lines end. Behind the line
+//! `lrat` a log may stand.
+ghost use Rattle.std.specs.Prelude.{◌≡◌, ◌+◌, ◌*◌, ◌<◌, ◌≤◌, ◌==◌, [], ℕ, IfOk, IfSome, MatchOption, length, slice_index};
+ghost use Rattle.clause_arena.specs.Arenas.{literals};
 ghost use Rattle.text_rows.specs.Lines.{free_lines};
 ghost use Rattle.text_rows.specs.Words.{tokens};
 ghost use Rattle.dimacs_text.specs.Formulas.{body_words, header_words};
 ghost use Rattle.dimacs_text.specs.Keeping.{Holds, IsFor, IsTaken};
 ghost use Rattle.dimacs_text.specs.Bodies.{IsBodyRead};
-ghost use Rattle.dimacs_text.specs.CnfTexts.{IsFrontRead, IsCnfRead, fault_of, IsJoinedRead};
+ghost use Rattle.dimacs_text.specs.CnfTexts.{IsFrontRead, IsCnfRead, fault_of, IsJudgedFault, IsJoinedRead};
 
 use crate::body::Body;
-use crate::log::{LogFault, is_passed, read_log_after};
+use crate::log::{LogFault, is_passed, judge_log, read_log_after};
 use clause_arena::Cnf;
 use cpog_base::{LONG_INPUT_LIMIT, Memory};
 use proof_check::Log;
@@ -70,7 +72,7 @@ fn read_header(line: &[u8]) -> Option<Header>
 
 /// The lines up to the `p` line.
 fn read_front(bytes: &[u8]) -> Result<Front<'_>, CnfFault>
-    requires { length bytes.now ≤ 536870912 }
+    requires { length bytes.now ≤ LONG_INPUT_LIMIT }
     ensures front { IsFrontRead (free_lines bytes.now) result }
     ensures lines { IfOk result (λ x. length x.rest.now + x.lines ≤ length bytes.now) }
 {
@@ -140,16 +142,21 @@ fn take_line(line: &[u8], header: Header, body: &mut Body) -> Result<bool, Memor
 }
 
 /// The lines up to the line `lrat` or the end.
-fn read_body<'a>(bytes: &'a [u8], before: u32, header: Header, body: &mut Body) -> Result<BodyEnd<'a>, CnfFault>
-    requires size { length bytes.now + before ≤ 536870912 }
+fn read_body<'a>(
+    bytes: &'a [u8],
+    before: u32,
+    header: Header,
+    body: &mut Body,
+) -> Result<BodyEnd<'a>, CnfFault>
+    requires size { length bytes.now + before ≤ LONG_INPUT_LIMIT }
     requires small { header.variables < 10000000000 }
     requires few { header.clauses < 10000000000 }
     requires kind { IsFor header.variables body.old }
     requires nothing { Holds body.old [] [] }
     ensures kind { IfOk result (λ _. IsFor header.variables body.new) }
     ensures body { IsBodyRead header.variables header.clauses before (free_lines bytes.now) body.new result }
-    ensures lines { IfOk result (λ x. x.lines ≤ 536870912) }
-    ensures rest { IfOk result (λ x. IfSome x.rest (λ r. length r.now + x.lines ≤ 536870912)) }
+    ensures lines { IfOk result (λ x. x.lines ≤ LONG_INPUT_LIMIT) }
+    ensures rest { IfOk result (λ x. IfSome x.rest (λ r. length r.now + x.lines ≤ LONG_INPUT_LIMIT)) }
 {
     let mut rest = bytes;
     let mut lines = before;
@@ -180,7 +187,8 @@ fn read_body<'a>(bytes: &'a [u8], before: u32, header: Header, body: &mut Body) 
 /// `Memory` where none is left.
 pub fn read_cnf(alloc: Global, bytes: &[u8]) -> Result<Cnf, CnfFault>
     requires { length bytes.now ≤ LONG_INPUT_LIMIT }
-    ensures { IsCnfRead (free_lines bytes.now) result }
+    ensures read { IsCnfRead (free_lines bytes.now) result }
+    ensures size { IfOk result (λ formula. 2 * (length formula.clauses.clauses + literals formula.clauses.clauses) ≤ length bytes.now) }
 {
     let front = match read_front(bytes) {
         Ok(front) => front,
@@ -217,13 +225,25 @@ fn joined_fault(fault: LogFault) -> CnfFault
     }
 }
 
-/// A formula, and behind the line `lrat` the log of a refutation of it, as `cpog lrat` reads them. Lines are counted over the
-/// whole text.
+/// What is wrong with a text whose formula has too many variables: the first bad line of its log, or else the limit.
+fn judged_fault(alloc: Global, rest: &[u8], header: Header, lines: u32) -> CnfFault
+    requires size { length rest.now + lines ≤ LONG_INPUT_LIMIT }
+    requires small { header.variables < 10000000000 }
+    ensures { IsJudgedFault header.variables header.clauses (free_lines rest.now) lines result }
+{
+    match judge_log(alloc, rest, header.variables, header.clauses, lines) {
+        Ok(()) => CnfFault::Limit,
+        Err(fault) => joined_fault(fault),
+    }
+}
+
+/// A formula, and behind the line `lrat` the log of a refutation of it, as `cpog lrat` reads them. Lines are counted
+/// over the whole text.
 ///
 /// # Errors
 ///
-/// `BadLine` with the first bad line of the text, `Limit` where the formula is good and has more than 16777216 variables
-/// (the log is not read then), and `Memory` where none is left.
+/// `BadLine` with the first bad line of the text, `Limit` where it is good and the formula has more than 16777216
+/// variables, and `Memory` where none is left.
 pub fn read_joined(alloc: Global, bytes: &[u8]) -> Result<(Cnf, Log), CnfFault>
     requires { length bytes.now ≤ LONG_INPUT_LIMIT }
     ensures { IsJoinedRead (free_lines bytes.now) result }
@@ -246,7 +266,7 @@ pub fn read_joined(alloc: Global, bytes: &[u8]) -> Result<(Cnf, Log), CnfFault>
     }
     let clauses = match body.into_clauses() {
         Some(clauses) => clauses,
-        None => return Err(CnfFault::Limit),
+        None => return Err(judged_fault(alloc, rest, front.header, end.lines)),
     };
     let variables = front.header.variables as u32;
     let count = clauses.len();

@@ -1,39 +1,38 @@
-//! The text of a log.
+//! The text of a log: a line for each addition and each deletion, with free spacing, comments and blank lines.
 ghost use Rattle.std.specs.Prelude.{◌≡◌, ◌+◌, ◌<◌, ◌≤◌, ◌^◌, ◌∷◌, ◌++◌, [], ℕ, Bool, true, false, MatchOption, IfOk, IfErr, length, map, List};
 ghost use Rattle.std.specs.Fmt.{decimal};
 ghost use Rattle.text_rows.specs.Words.{tokens};
 ghost use Rattle.dimacs_text.specs.Logs.{ended, lit_word, LitsWithin, AreIds, SpellsLine};
+ghost use Rattle.dimacs_text.specs.Keeping.{HoldsLits, IsLitsFor, IsKept};
 ghost use Rattle.dimacs_text.specs.Entries.{IsEntry};
 ghost use Rattle.text_rows.specs.Lines.{free_lines};
-ghost use Rattle.dimacs_text.specs.LogTexts.{StepBad, StepTo, IsLogRead};
+ghost use Rattle.dimacs_text.specs.LogTexts.{StepBad, StepTo, IsLogRead, IsLogJudged};
 ghost use Rattle.dimacs_text.specs.Logs as logs;
 ghost use Rattle.clause_arena.specs.Clauses.{Clause};
 ghost use Rattle.proof_check.specs.Lines.{Line, last_id};
 
-use clause_arena::Lit;
-use cpog_base::Memory;
+use crate::line_lits::LineLits;
+use cpog_base::{LONG_INPUT_LIMIT, Memory, VARIABLE_LIMIT};
 use proof_check::Log;
 use std::alloc::Global;
 use text_rows::{after_word, is_blank, next_free_line, number, signed};
 
-/// What is wrong with a log's text.
+/// What is wrong with the text of a log.
 #[derive(Clone, Copy, Debug, PartialEq, Eq)]
 pub enum LogFault {
+    /// The number of the first bad line, from 1.
     BadLine(u32),
     Memory,
 }
 
-impl From<Memory> for LogFault {
-    fn from(_error: Memory) -> LogFault {
-        LogFault::Memory
-    }
-}
-
-/// A line of a log: its numbers are kept beside it.
+/// What a line of a log is, beside its literals and its hints or deleted ids, which stay in buffers.
 #[derive(Clone, Copy)]
 enum Entry {
+    /// An addition with this id.
     Add(u32),
+    /// A deletion.
     Del,
+    /// Neither.
     Bad,
 }
 
@@ -57,9 +56,16 @@ fn read_ids<'a>(words: &'a [u8], ids: &mut Vec<u32>) -> Result<Option<&'a [u8]>,
 }
 
 /// The literals up to `0`, and what follows it.
-fn read_lits<'a>(words: &'a [u8], variables: u32, lits: &mut Vec<Lit>) -> Result<Option<&'a [u8]>, Memory>
-    requires { variables < 2 ^ 31 }
-    ensures { IfOk result (λ o. MatchOption o ((ls : Clause) (ws : List (List ℕ)) → LitsWithin variables ls → tokens words.now ≡ ended (map lit_word ls) ++ ws → ⊥) (λ x. LitsWithin variables lits.new.items × (tokens words.now ≡ ended (map lit_word lits.new.items) ++ tokens x.now))) }
+fn read_lits<'a>(
+    words: &'a [u8],
+    variables: u64,
+    lits: &mut LineLits,
+) -> Result<Option<&'a [u8]>, Memory>
+    requires small { variables < 10000000000 }
+    requires kind { IsLitsFor variables lits.old }
+    ensures kind { IfOk result (λ _. IsLitsFor variables lits.new) }
+    ensures kept { IfOk result (λ _. IsKept lits.old → IsKept lits.new) }
+    ensures read { IfOk result (λ o. MatchOption o ((ls : Clause) (ws : List (List ℕ)) → LitsWithin variables ls → tokens words.now ≡ ended (map lit_word ls) ++ ws → ⊥) (λ x. (ls : Clause) × HoldsLits lits.new ls × LitsWithin variables ls × (tokens words.now ≡ ended (map lit_word ls) ++ tokens x.now))) }
 {
     lits.clear();
     let mut rest = words;
@@ -68,10 +74,10 @@ fn read_lits<'a>(words: &'a [u8], variables: u32, lits: &mut Vec<Lit>) -> Result
         if n == 0 {
             return Ok(Some(rest));
         }
-        if n > variables as u64 {
+        if n > variables {
             return Ok(None);
         }
-        lits.push(Lit::from_var(n as u32, negated))?;
+        lits.take(n, negated)?;
     }
     Ok(None)
 }
@@ -79,13 +85,16 @@ fn read_lits<'a>(words: &'a [u8], variables: u32, lits: &mut Vec<Lit>) -> Result
 /// What a line of a log is, behind additions of which the last has this id.
 fn read_entry(
     line: &[u8],
-    variables: u32,
-    last: u32,
-    lits: &mut Vec<Lit>,
+    variables: u64,
+    last: u64,
+    lits: &mut LineLits,
     hints: &mut Vec<u32>,
 ) -> Result<Entry, Memory>
-    requires { variables < 2 ^ 31 }
-    ensures { IfOk result (IsEntry variables last (tokens line.now) lits.new.items hints.new.items) }
+    requires small { variables < 10000000000 }
+    requires kind { IsLitsFor variables lits.old }
+    ensures kind { IfOk result (λ _. IsLitsFor variables lits.new) }
+    ensures kept { IfOk result (λ _. IsKept lits.old → IsKept lits.new) }
+    ensures entry { IfOk result (IsEntry variables last (tokens line.now) lits.new hints.new.items) }
 {
     let Some((id, rest)) = number(line) else {
         return Ok(Entry::Bad);
@@ -105,7 +114,7 @@ fn read_entry(
         }
         return Ok(Entry::Del);
     }
-    if id <= last as u64 {
+    if id <= last {
         return Ok(Entry::Bad);
     }
     let Some(words) = read_lits(rest, variables, lits)? else {
@@ -134,13 +143,17 @@ pub fn is_passed(line: &[u8]) -> bool
 fn read_line(
     log: &mut Log,
     line: &[u8],
-    variables: u32,
-    last: u32,
-    lits: &mut Vec<Lit>,
+    variables: u64,
+    last: u64,
+    lits: &mut LineLits,
     hints: &mut Vec<u32>,
-) -> Result<Option<u32>, Memory>
-    requires small { variables < 2 ^ 31 }
+) -> Result<Option<u64>, Memory>
+    requires small { variables < 10000000000 }
+    requires kind { IsLitsFor variables lits.old }
+    requires kept { IsKept lits.old }
     requires last { last_id log.old.first log.old.lines ≡ last }
+    ensures kind { IfOk result (λ _. IsLitsFor variables lits.new) }
+    ensures kept { IfOk result (λ _. IsKept lits.new) }
     ensures first { log.new.first ≡ log.old.first }
     ensures step { IfOk result (λ o. MatchOption o (StepBad variables last line.now) (λ next. StepTo variables last line.now log.old.lines log.new.lines next × (last_id log.new.first log.new.lines ≡ next))) }
 {
@@ -150,8 +163,8 @@ fn read_line(
     match read_entry(line, variables, last, lits, hints)? {
         Entry::Bad => Ok(None),
         Entry::Add(id) => {
-            log.push_add(id, lits, hints)?;
-            Ok(Some(id))
+            log.push_add(id, lits.as_slice(), hints)?;
+            Ok(Some(id as u64))
         }
         Entry::Del => {
             log.push_del(hints)?;
@@ -168,20 +181,27 @@ pub fn read_log_after(
     clauses: u32,
     before: u32,
 ) -> Result<Log, LogFault>
-    requires size { length bytes.now + before ≤ 536870912 }
-    requires small { variables < 2 ^ 31 }
+    requires size { length bytes.now + before ≤ LONG_INPUT_LIMIT }
+    requires small { variables ≤ VARIABLE_LIMIT }
     ensures { IsLogRead variables clauses (free_lines bytes.now) before result }
 {
     let mut log = Log::new(alloc, clauses);
-    let mut lits = Vec::new(alloc);
+    let mut lits = LineLits::Kept(Vec::new(alloc));
     let mut hints = Vec::new(alloc);
     let mut rest = bytes;
     let mut number = before;
-    let mut last = clauses;
+    let mut last = clauses as u64;
     while let Some((line, after)) = next_free_line(rest) {
         rest = after;
         number += 1;
-        let Ok(step) = read_line(&mut log, line, variables, last, &mut lits, &mut hints) else {
+        let Ok(step) = read_line(
+            &mut log,
+            line,
+            variables as u64,
+            last,
+            &mut lits,
+            &mut hints,
+        ) else {
             return Err(LogFault::Memory);
         };
         let Some(next) = step else {
@@ -192,10 +212,69 @@ pub fn read_log_after(
     Ok(log)
 }
 
-/// A log.
+/// Passes over a line of a log: the id of the last addition behind it, or none where the line may not stand.
+fn judge_line(
+    line: &[u8],
+    variables: u64,
+    last: u64,
+    lits: &mut LineLits,
+    hints: &mut Vec<u32>,
+) -> Result<Option<u64>, Memory>
+    requires small { variables < 10000000000 }
+    requires kind { IsLitsFor variables lits.old }
+    ensures kind { IfOk result (λ _. IsLitsFor variables lits.new) }
+    ensures step { IfOk result (λ o. MatchOption o (StepBad variables last line.now) (λ next. (old : List Line) → (new : List Line) × StepTo variables last line.now old new next)) }
+{
+    if is_passed(line) {
+        return Ok(Some(last));
+    }
+    match read_entry(line, variables, last, lits, hints)? {
+        Entry::Bad => Ok(None),
+        Entry::Add(id) => Ok(Some(id as u64)),
+        Entry::Del => Ok(Some(last)),
+    }
+}
+
+/// Whether the lines are those of a log of a formula with so many variables and clauses; if not, the first bad one. The
+/// log is not kept.
+pub fn judge_log(
+    alloc: Global,
+    bytes: &[u8],
+    variables: u64,
+    clauses: u64,
+    before: u32,
+) -> Result<(), LogFault>
+    requires size { length bytes.now + before ≤ LONG_INPUT_LIMIT }
+    requires small { variables < 10000000000 }
+    ensures { IsLogJudged variables clauses (free_lines bytes.now) before result }
+{
+    let mut lits = LineLits::Passed;
+    let mut hints = Vec::new(alloc);
+    let mut rest = bytes;
+    let mut number = before;
+    let mut last = clauses;
+    while let Some((line, after)) = next_free_line(rest) {
+        rest = after;
+        number += 1;
+        let Ok(step) = judge_line(line, variables, last, &mut lits, &mut hints) else {
+            return Err(LogFault::Memory);
+        };
+        let Some(next) = step else {
+            return Err(LogFault::BadLine(number));
+        };
+        last = next;
+    }
+    Ok(())
+}
+
+/// The log that a text of lines has, of a formula with so many variables and clauses, after the proof format LRAT.
+///
+/// # Errors
+///
+/// `BadLine` with the first bad line of the text, and `Memory` where none is left.
 pub fn read_log(alloc: Global, bytes: &[u8], variables: u32, clauses: u32) -> Result<Log, LogFault>
-    requires size { length bytes.now ≤ 536870912 }
-    requires small { variables ≤ 16777216 }
+    requires size { length bytes.now ≤ LONG_INPUT_LIMIT }
+    requires small { variables ≤ VARIABLE_LIMIT }
     ensures { IsLogRead variables clauses (free_lines bytes.now) 0 result }
 {
     read_log_after(alloc, bytes, variables, clauses, 0)

@@ -55,7 +55,12 @@ fn put_clause(out: &mut String, lits: &[Lit]) -> Result<(), AllocError>
     Ok(())
 }
 
-fn formula_text(alloc: Global, comment: &str, variables: u32, clauses: &ClauseArena) -> Result<String, AllocError>
+fn formula_text(
+    alloc: Global,
+    comment: &str,
+    variables: u32,
+    clauses: &ClauseArena,
+) -> Result<String, AllocError>
     ensures text { IfOk result (λ text. string_bytes text ≡ text_of (formula_lines comment.now variables clauses.now.clauses)) }
     ensures few_variables { variables < 4294967296 }
     ensures few { length clauses.now.clauses < 4294967295 }
@@ -107,8 +112,8 @@ fn put_line(out: &mut String, last: u32, line: LineRef<'_>) -> Result<u32, Alloc
     }
 }
 
-/// The text of a log, a line for each of its lines. A deletion has the id of the addition before it, or 1 where there is
-/// none.
+/// The text of a log, a line for each of its lines. A deletion has the id of the addition before it, or 1 where there
+/// is none.
 ///
 /// # Errors
 ///

@@ -9,7 +9,8 @@ abbrev pub IsKnown : Clause → List Clause → Type 0
 IsKnown c [] = ⊥
 IsKnown c (k ∷ known) = (c ≡ k) ⊎ IsKnown c known
 
--- the least set that has these literals and, wherever it has the complements of all literals of a known clause but one, that one
+-- the least set that has these literals and, wherever it has the complements of all literals of a known clause but
+-- one, that one
 pub data Propagated (known : List Clause) (start : Lit → Type 0) : Lit → Type 0 where
   given : {l : Lit} → start l → Propagated known start l
   forced : {l : Lit} (c : Clause) → IsKnown c known → In l c → ((m : Lit) → In m c → m ≢ l → Propagated known start (opposite m)) → Propagated known start l
@@ -29,8 +30,8 @@ pub record IsNewBy (known : List Clause) (line : Clause) (x : Lit) : Type 0 wher
 abbrev pub IsNew : List Clause → Clause → Type 0
 IsNew known line = (x : Lit) × IsNewBy known line x
 
--- what a line of a progress log owes beside that it follows: it isn't empty, its variables are numbers from 1 on, none stands in it twice,
--- and it is new
+-- what a line of a progress log owes beside that it follows: it isn't empty, its variables are numbers from 1 on, none
+-- stands in it twice, and it is new
 pub record IsProgressLine (known : List Clause) (lits : Clause) : Type 0 where
   pub some : lits ≢ []
   pub positive : (l : Lit) → In l lits → 0 < l.var

@@ -1,4 +1,5 @@
--- A log as it is kept: all literals in one list, all hints and deleted ids in another, and where each line ends in them.
+-- A log as it is kept: all literals in one list, all hints and deleted ids in another, and where each line ends in
+-- them.
 use Rattle.std.specs.Prelude.{◌≡◌, ℕ, zero, suc, ◌+◌, ◌-◌, ◌<◌, ◌≤◌, ◌^◌, min, nat_lt, List, [], ◌∷◌, length, slice_range, slice_index_or, if◌then◌else◌}
 use Rattle.clause_arena.specs.Clauses.{Lit}
 use Rattle.proof_check.specs.declared.record.Record.{Record}

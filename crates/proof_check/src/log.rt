@@ -1,5 +1,5 @@
-//! Logs. All literals lie in one vector, all hints and deleted ids in another, and a third says where each line ends, so
-//! a line takes twelve bytes beside its numbers.
+//! Logs. All literals lie in one vector, all hints and deleted ids in another, and a third says where each line ends,
+//! so a line takes twelve bytes beside its numbers.
 ghost use Rattle.std.specs.Prelude.{◌≡◌, ◌+◌, ◌<◌, ◌≤◌, [], ◌∷◌, ◌++◌, length, OnOk, OnErr, MatchOption, ℕ, IsTrue, false, vec_len, vec_capacity};
 ghost use Rattle.proof_check.specs.Lines.{numbers, numbers_of, last_id, ArePositive, line_at, is_add_of};
 ghost use Rattle.proof_check.specs.Lines.Line.{Add, Del};
@@ -16,8 +16,8 @@ use std::marker::Model;
 // so that the number after the last one is a u32 too.
 const MOST: usize = 4294967294;
 
-/// A line of a log, lent: a clause that is added under an id, with the ids of the clauses that it follows from in the order in
-/// which these are used, or ids of clauses that are used no more.
+/// A line of a log, lent: a clause that is added under an id, with the ids of the clauses that it follows from in the
+/// order in which these are used, or ids of clauses that are used no more.
 #[derive(Clone, Copy)]
 pub enum LineRef<'a> {
     Add {
@@ -30,8 +30,8 @@ pub enum LineRef<'a> {
     },
 }
 
-/// The log of a solver, which only grows: earlier lines never change. Contracts see the list of its lines, the number of
-/// clauses above which its ids begin, and how many more lines and numbers there is room for.
+/// The log of a solver, which only grows: earlier lines never change. Contracts see the list of its lines, the number
+/// of clauses above which its ids begin, and how many more lines and numbers there is room for.
 #[derive(Drop)]
 pub struct Log {
     clauses: u32,

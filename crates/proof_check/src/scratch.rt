@@ -82,8 +82,8 @@ fn next_stamp(marks: &mut Vec<u32>, stamp: u32) -> u32
     1
 }
 
-/// Whether the next line follows; if not, the first hint that breaks the rule. It takes no memory, and its cost is that of
-/// the line's own literals and hints. A refused line leaves the scratch fit to try the line again.
+/// Whether the next line follows; if not, the first hint that breaks the rule. It takes no memory, and its cost is
+/// that of the line's own literals and hints. A refused line leaves the scratch fit to try the line again.
 pub fn check_line(formula: &Cnf, log: &Log, scratch: &mut Scratch, index: u32) -> LineVerdict
     requires fits { Fits formula.now.variables formula.now.clauses.clauses log.now.lines scratch.old index }
     requires inside { index < length log.now.lines }

@@ -4,8 +4,9 @@
 #[derive(Clone, Copy, Debug, PartialEq, Eq)]
 pub enum LineVerdict {
     Follows,
-    /// It doesn't, and this is the first hint, from 1, that breaks the rule. It is 0 where the cause lies in no hint: there is
-    /// none, or the clause holds a variable in both signs or one that the formula hasn't, or the id is a clause's of the formula.
+    /// It doesn't, and this is the first hint, from 1, that breaks the rule. It is 0 where the cause lies in no hint:
+    /// there is none, or the clause holds a variable in both signs or one that the formula hasn't, or the id is a
+    /// clause's of the formula.
     Refused(u32),
 }
 

@@ -3,3 +3,4 @@ pub mod TokenSplits
 pub mod PlainLemmas
 pub mod LineLemmas
 pub mod WritingLemmas
+pub mod SizeLemmas

@@ -69,7 +69,7 @@ pub plain_found : (word : List ℕ) (n end : ℕ) → end ≤ length word → (e
 plain_found word n end le some digits value lt padded =
     let l : length (take end word) ≡ end = length-take-le end word le in
     let at : get_or (take end word) 0 0 ≡ get_or word 0 0 = get_or-take end word 0 0 (omega arith) in
-    let one : get_or (take end word) 0 0 ≡ 48 → length (take end word) ≡ 1 = λ e. (elim (cases_lt 1 end) [ | inl more ↦ absurd (padded more (sym at ∙ e)) | inr less ↦ omega arith ]) in
+    let one : get_or (take end word) 0 0 ≡ 48 → length (take end word) ≡ 1 = λ e. (elim (cases_lt 1 end) [ inl more ↦ absurd (padded more (sym at ∙ e)) | inr less ↦ omega arith ]) in
     sym (take-append-drop end word) ∙ ap (λ (t : List ℕ). t ++ drop end word) (spelled (take end word) n digits (omega arith) one (omega arith) (sym value))
 
 pub plain_no_digit : (word : List ℕ) (n end m : ℕ) (more : List ℕ) → end ≡ 0 → n ≡ digits_value 10 (take end word) → (end < length word → n < 1000000000 → IsInRange 48 57 (get_or word end 0) → ⊥) → m < 10000000000 → word ≡ decimal m ++ more → ⊥

@@ -1,5 +1,5 @@
 -- Lines and words that are written are read.
-use Rattle.std.proofs.Common.{◌≡◌, ◌≢◌, ℕ, zero, suc, ◌+◌, ◌<◌, ◌≤◌, ◌^◌, Bool, true, false, eqb, List, [], ◌∷◌, ◌++◌, length, take, drop, get_or, refl, sym, ap, ap₂, ◌∙◌, subst, arith, append_assoc, length-append, inl, inr}
+use Rattle.std.proofs.Common.{◌≡◌, ◌≢◌, ℕ, zero, suc, ◌+◌, ◌<◌, ◌^◌, List, [], ◌∷◌, ◌++◌, length, drop, get_or, refl, sym, ap, ap₂, ◌∙◌, subst, arith, append_assoc, length-append, inl, inr}
 use Rattle.std.specs.List.{AllByRecursion}
 use Rattle.std.specs.Fmt.{decimal}
 use Rattle.std.specs.Str.Parse.{AllDigits}
@@ -9,9 +9,10 @@ use Rattle.std.proofs.lemmas.List.{append-nil}
 use Rattle.std.proofs.lemmas.Fmt.{decimal_is_IsNumeral, decimal_nonempty}
 use Rattle.std.proofs.lemmas.Str.Parse.{digit_from_value}
 use Rattle.line_text.specs.Lines.{text_of}
-use Rattle.text_rows.specs.Words.{is_space, tokens, NoSpace, spaced, IsWord}
+use Rattle.text_rows.specs.Words.{tokens, NoSpace, spaced, IsWord}
 use Rattle.text_rows.specs.Lines.{without_return, free_lines, IsUnbroken}
 use Rattle.text_rows.specs.FirstBad.{IsFirstBad, NoneBegins}
+use Rattle.text_rows.specs.Laws.{BadLinesAreTold}
 use Rattle.text_rows.proofs.TokenSplits.{tokens_space, tokens_word}
 use Rattle.text_rows.proofs.LineLemmas.{first_at}
 
@@ -98,7 +99,7 @@ not_later IsText lines j k f s lt =
     let none : NoneBegins IsText f.good (r.0 ∷ r.2) = subst (NoneBegins IsText f.good) r.3 f.none in
     none (r.1 ++ s.begins.0) (subst IsText (ap (λ (t : List (List ℕ)). t ++ s.begins.0) r.4 ∙ append_assoc f.good (r.0 ∷ r.1) s.begins.0) s.begins.1)
 
-pub one_first_bad : (IsText : List (List ℕ) → Type 0) (lines : List (List ℕ)) (j k : ℕ) → IsFirstBad IsText lines j → IsFirstBad IsText lines k → j ≡ k
+one_first_bad : (IsText : List (List ℕ) → Type 0) (lines : List (List ℕ)) (j k : ℕ) → IsFirstBad IsText lines j → IsFirstBad IsText lines k → j ≡ k
 one_first_bad IsText lines j k f s = elim (cases_lt j k) [
   | inl lt ↦ absurd (not_later IsText lines j k f s lt)
   | inr le ↦ elim (cases_lt k j) [
@@ -106,3 +107,13 @@ one_first_bad IsText lines j k f s = elim (cases_lt j k) [
     | inr ge ↦ omega arith
   ]
 ]
+
+no_text : (IsText : List (List ℕ) → Type 0) (lines : List (List ℕ)) (j : ℕ) → IsFirstBad IsText lines j → IsText lines → ⊥
+no_text IsText lines j f t = by f.after f.parts f.none
+  where
+    by : (after : List (List ℕ)) → lines ≡ f.good ++ after → NoneBegins IsText f.good after → ⊥
+    by [] e none = none (subst IsText (e ∙ append-nil f.good) t)
+    by (l ∷ after) e none = none after (subst IsText e t)
+
+pub bad_lines_told : (IsText : List (List ℕ) → Type 0) → BadLinesAreTold IsText
+bad_lines_told IsText = (no_text IsText, one_first_bad IsText)

@@ -6,8 +6,8 @@ abbrev pub NoneBegins : (List (List ℕ) → Type 0) → List (List ℕ) → Lis
 NoneBegins IsText good [] = IsText good → ⊥
 NoneBegins IsText good (l ∷ rest) = (more : List (List ℕ)) → IsText (good ++ l ∷ more) → ⊥
 
--- line k, from 1, is the first bad one: the lines before it begin a text, and with it they begin none; where the lines end too early, it is
--- the one that is missing
+-- line k, from 1, is the first bad one: the lines before it begin a text, and with it they begin none; where the lines
+-- end too early, it is the one that is missing
 pub record IsFirstBad (IsText : List (List ℕ) → Type 0) (lines : List (List ℕ)) (k : ℕ) : Type 0 where
   pub good : List (List ℕ)
   pub after : List (List ℕ)

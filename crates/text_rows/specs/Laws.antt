@@ -14,6 +14,6 @@ LinesAreRead = (lines : List (List ℕ)) → AllByRecursion IsUnbroken lines →
 abbrev pub WordsAreRead : Type 0
 WordsAreRead = (words : List (List ℕ)) → AllByRecursion IsWord words → tokens (spaced words) ≡ words
 
--- a text has one first bad line
-abbrev pub OneFirstBad : (List (List ℕ) → Type 0) → Type 0
-OneFirstBad IsText = (lines : List (List ℕ)) (j k : ℕ) → IsFirstBad IsText lines j → IsFirstBad IsText lines k → j ≡ k
+-- lines that are a text have no bad line, and others have one first bad line at most
+abbrev pub BadLinesAreTold : (List (List ℕ) → Type 0) → Type 0
+BadLinesAreTold IsText = ((lines : List (List ℕ)) (j : ℕ) → IsFirstBad IsText lines j → IsText lines → ⊥) × ((lines : List (List ℕ)) (j k : ℕ) → IsFirstBad IsText lines j → IsFirstBad IsText lines k → j ≡ k)

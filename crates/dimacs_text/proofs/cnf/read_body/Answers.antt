@@ -1,4 +1,4 @@
-use Rattle.std.proofs.Common.{arith, refl, ◌≡◌, ◌+◌, ◌++◌, ◌∷◌, [], ◌∙◌, sym, length, length-append, List, ℕ}
+use Rattle.std.proofs.Common.{arith, refl, ◌++◌, ◌∷◌, [], length-append}
 use Rattle.std.specs.Prelude.{codes}
 use Rattle.text_rows.specs.Lines.{free_lines}
 use Rattle.dimacs_text.proofs.BodyLemmas.{good_start, good_more, told_other}
@@ -22,9 +22,13 @@ loop-line-preserved c =
     record {
       kind = c.in-Ok.ensures.kind;
       counted = omega (arith, i.counted, c.in-Some.ensures.shorter);
-      parts = (p.0 ++ c.in-Some.line.now ∷ [], t.0, t.1,
+      parts = (
+        p.0 ++ c.in-Some.line.now ∷ [],
+        t.0,
+        t.1,
         parts_step p.0 c.in-Some.line.now (free_lines c.args.bytes.now) (free_lines c.loop-line.rest.now) (free_lines c.in-Some.after.now) p.3 c.in-Some.ensures.lines,
         omega (arith, p.4, length-append p.0 (c.in-Some.line.now ∷ [])),
         t.2.holds,
-        good_more c.args.header.variables c.args.header.clauses p.0 c.in-Some.line.now p.1 t.0 p.2 t.1 g (told_other c.in-Some.line.now c.as_slice.result.now (codes "lrat") c.if-eq.ensures c.as_slice.ensures) t.3 t.2.left t.2.within t.2.open_within);
+        good_more c.args.header.variables c.args.header.clauses p.0 c.in-Some.line.now p.1 t.0 p.2 t.1 g (told_other c.in-Some.line.now c.as_slice.result.now (codes "lrat") c.if-eq.ensures c.as_slice.ensures) t.3 t.2.left t.2.within t.2.open_within,
+      );
     }

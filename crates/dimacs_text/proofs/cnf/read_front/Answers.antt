@@ -1,4 +1,4 @@
-use Rattle.std.proofs.Common.{arith, ◌≡◌, ◌+◌, ◌++◌, ◌∷◌, [], ◌∙◌, sym, length, length-append, List, ℕ}
+use Rattle.std.proofs.Common.{arith, ◌++◌, ◌∷◌, [], sym, length-append}
 use Rattle.text_rows.specs.Lines.{free_lines}
 use Rattle.dimacs_text.proofs.LogTextLemmas.{parts_step}
 use Rattle.dimacs_text.proofs.FrontLemmas.{passed_push}
@@ -16,10 +16,12 @@ loop-line-preserved c =
     let p = i.parts in
     record {
       counted = omega (arith, i.counted, c.in-Some.ensures.shorter);
-      parts = (p.0 ++ c.in-Some.line.now ∷ [],
+      parts = (
+        p.0 ++ c.in-Some.line.now ∷ [],
         parts_step p.0 c.in-Some.line.now (free_lines c.args.bytes.now) (free_lines c.loop-line.rest.now) (free_lines c.in-Some.after.now) p.1 c.in-Some.ensures.lines,
         omega (arith, p.2, length-append p.0 (c.in-Some.line.now ∷ [])),
-        passed_push p.0 c.in-Some.line.now p.3 (sym c.if-is_passed.ensures));
+        passed_push p.0 c.in-Some.line.now p.3 (sym c.if-is_passed.ensures),
+      );
     }
 
 pub returns-in_default-read_header-clause-front : goal.returns-in_default-read_header-clause-front

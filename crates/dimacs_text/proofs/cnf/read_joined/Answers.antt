@@ -1,12 +1,12 @@
-use Rattle.std.proofs.Common.{arith, refl, ◌-◌, length-append, ◌≡◌, ◌<◌, ◌≤◌, ◌+◌, ◌++◌, ◌∷◌, [], ◌∙◌, sym, ap, subst, length, true, List, ℕ}
+use Rattle.std.proofs.Common.{arith, length-append, ◌≡◌, ◌++◌, ◌∷◌, ◌∙◌, sym, ap, subst, length, true, List, ℕ}
 use Rattle.std.specs.Prelude.{codes}
 use Rattle.std.proofs.lemmas.Bool.{false≢true}
 use Rattle.clause_arena.specs.Clauses.{Clause}
 use Rattle.clause_arena.specs.Formulas.{are_within}
 use Rattle.text_rows.specs.Lines.{free_lines}
 use Rattle.dimacs_text.proofs.JoinedLemmas.{joined_end}
-use Rattle.dimacs_text.proofs.JoinedReadLemmas.{joined_err, others_front, lrat_first, log_err, joined_found}
-use Rattle.dimacs_text.proofs.CnfLemmas.{behind_front, good_begins, whole_found}
+use Rattle.dimacs_text.proofs.JoinedReadLemmas.{joined_err, others_front, lrat_first, log_err, judged_err, joined_found}
+use Rattle.dimacs_text.proofs.CnfLemmas.{behind_front, good_begins}
 use Rattle.dimacs_text.proofs.cnf.read_joined.Goals as goal
 
 pub returns-in-Err-read_body : goal.returns-in-Err-read_body
@@ -47,7 +47,7 @@ returns-in-None-into_clauses c =
     let parts : all ≡ (f.0 ++ f.1 ∷ b.0) ++ codes "lrat" ∷ rest = f.3 ∙ (ap (λ (t : List (List ℕ)). f.0 ++ f.1 ∷ t) at.0 ∙ sym (behind_front f.0 f.1 b.0 (codes "lrat" ∷ rest))) in
     let whole = (c.is_whole.ensures b.1 b.2 b.3).0 c.if-not-is_whole.false in
     let over = c.in-None-into_clauses.ensures head.variables b.1 b.2 c.in-Ok-read_body.ensures.kind b.3 in
-    (f.0 ++ f.1 ∷ b.0, rest, head.variables, b.1, parts, whole_found f.0 f.1 head.variables head.clauses (f.0 ++ f.1 ∷ b.0) b.0 b.1 b.2 f.2 refl b.4 whole.0 whole.1, over)
+    judged_err f.0 f.1 head.variables head.clauses c.in-Ok-read_body.end.lines all b.0 rest b.1 b.2 c.judged_fault.result f.2 parts (omega (arith, at.1, f.4)) b.4 whole.0 whole.1 over c.judged_fault.ensures
 
 pub overflow_cast-variables : goal.overflow_cast-variables
 overflow_cast-variables c =

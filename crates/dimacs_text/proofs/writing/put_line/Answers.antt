@@ -1,4 +1,4 @@
-use Rattle.std.proofs.Common.{map, ap, ◌∙◌, sym, ◌++◌, ◌≡◌}
+use Rattle.std.proofs.Common.{map}
 use Rattle.std.specs.Fmt.{decimal}
 use Rattle.dimacs_text.specs.Logs.{lit_word}
 use Rattle.dimacs_text.proofs.WritingLemmas.{addition_written, deletion_written}

@@ -1,4 +1,4 @@
-use Rattle.std.proofs.Common.{arith, ap, sym, ◌∙◌, ◌<◌, ◌≡◌, ◌+◌, ◌++◌, length, take, subst, refl, List, ℕ, Vec, Global}
+use Rattle.std.proofs.Common.{arith, ap, sym, ◌∙◌, ◌<◌, ◌≡◌, ◌++◌, length, take, subst, List, ℕ, Vec, Global}
 use Rattle.std.specs.List.{AllByRecursion}
 use Rattle.std.proofs.lemmas.List.{take_all}
 use Rattle.proof_check.specs.Lines.{Line, last_id}
@@ -28,5 +28,5 @@ returns-clause-spells c variables small within =
     let lines = c.args.log.now.lines in
     let all : take c.lines.i lines ≡ lines = take_all c.lines.i lines (omega (arith, c.lines-test.false, c.len-i-end.ensures.len)) in
     let text : c.into_bytes.result.items ≡ text_of (log_lines lines) =
-        ap (λ (v : Vec ℕ Global). v.items) c.into_bytes.ensures.value ∙ (i.text ∙ (ap (λ (t : List ℕ). t ++ text_of (written_lines 1 (take c.lines.i lines))) c.new-out.ensures.bytes ∙ ap (λ (ls : List Line). text_of (written_lines 1 ls)) all)) in
+    ap (λ (v : Vec ℕ Global). v.items) c.into_bytes.ensures.value ∙ (i.text ∙ (ap (λ (t : List ℕ). t ++ text_of (written_lines 1 (take c.lines.i lines))) c.new-out.ensures.bytes ∙ ap (λ (ls : List Line). text_of (written_lines 1 ls)) all)) in
     text_spelled variables c.args.log.now.first _ lines text small c.len-i-end.ensures.log.rise c.len-i-end.ensures.log.positive (subst (AllByRecursion LineFits) all i.fit) within

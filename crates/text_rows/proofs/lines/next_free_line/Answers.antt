@@ -1,7 +1,7 @@
-use Rattle.std.proofs.Common.{arith, ◌≡◌, ◌<◌, ◌+◌, ◌-◌, ◌∷◌, ◌∙◌, ℕ, List, ap, sym, subst, length, take, drop, get_or}
+use Rattle.std.proofs.Common.{arith, ◌<◌, ◌+◌, ◌∷◌, ◌∙◌, ℕ, List, ap, sym, length, drop, get_or}
 use Rattle.std.proofs.lemmas.Grind.{common_steps}
 use Rattle.std.proofs.lemmas.Bool.{eq-eqb, eqb-true}
-use Rattle.text_rows.specs.Lines.{without_return, free_lines}
+use Rattle.text_rows.specs.Lines.{free_lines}
 use Rattle.text_rows.proofs.PlainLemmas.{whole}
 use Rattle.text_rows.proofs.LineLemmas.{first_at, first_of_one}
 use Rattle.text_rows.proofs.lines.next_free_line.Goals as goal

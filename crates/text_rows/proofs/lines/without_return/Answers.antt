@@ -1,4 +1,4 @@
-use Rattle.std.proofs.Common.{arith, ◌∙◌, ◌-◌, ◌<◌, length, take}
+use Rattle.std.proofs.Common.{arith, ◌-◌, ◌<◌, length}
 use Rattle.text_rows.proofs.LineLemmas.{return_dropped, return_stays}
 use Rattle.text_rows.proofs.lines.without_return.Goals as goal
 

@@ -1,7 +1,5 @@
-use Rattle.std.proofs.Common.{arith, ◌≡◌, ◌-◌, ◌++◌, ◌∙◌, sym, ap, subst, List, ℕ, length, take, drop}
-use Rattle.std.proofs.lemmas.List.{take_all}
+use Rattle.std.proofs.Common.{◌≡◌, ◌-◌, ◌++◌, ◌∙◌, sym, ap, List, ℕ, length, take, drop}
 use Rattle.std.specs.Fmt.{decimal}
-use Rattle.text_rows.specs.Words.{EndsWord}
 use Rattle.text_rows.proofs.PlainLemmas.{whole, plain_found, plain_no_digit, plain_padded, plain_goes_on}
 use Rattle.text_rows.proofs.words.plain.Goals as goal
 

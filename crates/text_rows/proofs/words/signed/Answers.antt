@@ -1,4 +1,4 @@
-use Rattle.std.proofs.Common.{arith, ap, sym, ◌∙◌, ◌≡◌, ◌∷◌, Bool, true, false, refl, List, ℕ}
+use Rattle.std.proofs.Common.{arith, sym, ◌∙◌, ◌≡◌, true, false}
 use Rattle.text_rows.proofs.PlainLemmas.{tokens_number, tokens_minus, number_parts, longer, same_number, signed_none_minus, signed_none_plain}
 use Rattle.text_rows.proofs.words.signed.Goals as goal
 
@@ -14,8 +14,8 @@ returns-then-n-eq0-clause-words c negated m ws lt some e =
     let p = number_parts c.args.bytes.now c.skip_spaces-word.result.now _ ws s.words s.first e in
     let g = c.in-Some-plain.ensures in
     signed_none_minus c.skip_spaces-word.result.now c.in-Some.body.now negated m p.0 c.in-Some.ensures lt
-      (λ x l n t f. omega (arith, some t, c.if-n-eq0.true, same_number m c.in-Some-plain.n x c.in-Some-plain.rest.now l g.0 n g.1 (sym f ∙ g.2)))
-      p.2 p.1
+    (λ x l n t f. omega (arith, some t, c.if-n-eq0.true, same_number m c.in-Some-plain.n x c.in-Some-plain.rest.now l g.0 n g.1 (sym f ∙ g.2)))
+    p.2 p.1
 
 pub returns-in-Some-clause-words : goal.returns-in-Some-clause-words
 returns-in-Some-clause-words c =
