@@ -4,12 +4,12 @@ use Rattle.std.proofs.lemmas.List.{length-map, length-take-le, get_or-drop, map-
 use Rattle.std.proofs.lemmas.List.Sums.{sum_by-set}
 use Rattle.std.proofs.lemmas.Bool.{cases_lt}
 use Rattle.clause_arena.specs.Clauses.{Lit, opposite, In}
-use Rattle.sat_trail.specs.Trails.{Entry, TrailState, entry_at, no_entry, IsTrail, IsCutTo}
+use Rattle.sat_trail.specs.Trails.{Entry, TrailState, entry_at, no_entry, IsTrail, IsCutTo, lit_at, no_lit}
 use Rattle.clause_arena.specs.Lits.{code_of}
 use Rattle.sat_trail.specs.declared.info.Info.{Info}
 use Rattle.sat_trail.specs.declared.value.Value.{Value}
 use Rattle.sat_trail.specs.declared.value.Value.TheVariants.{Open, True, False}
-use Rattle.sat_trail.specs.Kept.{IsKept, lit_at, no_lit, entry_of, entries_of, value_at, one_if_open}
+use Rattle.sat_trail.specs.Kept.{IsKept, entry_of, entries_of, value_at, one_if_open}
 use Rattle.sat_trail.proofs.TrailLemmas.{SignsAt, entry_is, lit_before, lit_last}
 use Rattle.sat_trail.proofs.LitLemmas.{same_var, code_var, code_other, code_fits}
 

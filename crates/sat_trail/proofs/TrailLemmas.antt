@@ -4,13 +4,13 @@ use Rattle.std.proofs.lemmas.List.{length-map}
 use Rattle.std.proofs.lemmas.List.Sums.{sum_by-set, get_or-le-sum_by}
 use Rattle.std.proofs.lemmas.Bool.{cases_eq}
 use Rattle.clause_arena.specs.Clauses.{Lit, opposite, In}
-use Rattle.sat_trail.specs.Trails.{Entry, TrailState, true_lits, entry_at, IsUnassigned, IsTrail}
+use Rattle.sat_trail.specs.Trails.{Entry, TrailState, true_lits, entry_at, IsUnassigned, IsTrail, lit_at}
 use Rattle.sat_trail.proofs.LitLemmas.{opposite_twice, same_var, code_var, code_other, code_fits}
 use Rattle.clause_arena.specs.Lits.{code_of}
 use Rattle.sat_trail.specs.declared.info.Info.{Info}
 use Rattle.sat_trail.specs.declared.value.Value.{Value}
 use Rattle.sat_trail.specs.declared.value.Value.TheVariants.{Open, True, False}
-use Rattle.sat_trail.specs.Kept.{IsKept, lit_at, info_of, no_info, entry_of, entries_of, value_at, one_if_open}
+use Rattle.sat_trail.specs.Kept.{IsKept, info_of, no_info, entry_of, entries_of, value_at, one_if_open}
 
 pub true_is : (lits : List Lit) (infos : List Info) → true_lits (entries_of lits infos) ≡ lits
 true_is [] infos = refl

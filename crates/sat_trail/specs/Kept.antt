@@ -1,19 +1,11 @@
 -- How a trail is kept: by variable, by literal, and in order.
-use Rattle.std.specs.Prelude.{◌≡◌, ◌≢◌, ℕ, ◌+◌, ◌-◌, ◌*◌, ◌<◌, ◌≤◌, ◌^◌, false, List, map, length, sum_by, None, slice_index_or}
+use Rattle.std.specs.Prelude.{◌≡◌, ◌≢◌, ℕ, ◌+◌, ◌-◌, ◌*◌, ◌<◌, ◌≤◌, ◌^◌, List, map, length, sum_by, None, slice_index_or}
 use Rattle.clause_arena.specs.Clauses.{Lit, opposite, In}
-use Rattle.sat_trail.specs.Trails.{Entry}
+use Rattle.sat_trail.specs.Trails.{Entry, lit_at}
 use Rattle.clause_arena.specs.Lits.{code_of}
 use Rattle.sat_trail.specs.declared.info.Info.{Info}
 use Rattle.sat_trail.specs.declared.value.Value.{Value}
 use Rattle.sat_trail.specs.declared.value.Value.TheVariants.{Open, True, False}
-
--- what stands at a place past the end
-abbrev pub no_lit : Lit
-no_lit = record { var = 0; negated = false }
-
--- the literal at a place
-abbrev pub lit_at : List Lit → ℕ → Lit
-lit_at lits p = slice_index_or lits p no_lit
 
 -- what is kept of a variable that isn't there
 abbrev pub no_info : Info

@@ -19,6 +19,14 @@ pub record TrailState : Type 0 where
 abbrev pub no_entry : Entry
 no_entry = record { lit = record { var = 0; negated = false }; level = 0; reason = None }
 
+-- a literal past the end
+abbrev pub no_lit : Lit
+no_lit = record { var = 0; negated = false }
+
+-- the literal at a place of a clause or of a list of literals
+abbrev pub lit_at : List Lit → ℕ → Lit
+lit_at lits p = slice_index_or lits p no_lit
+
 -- the literal of an entry
 abbrev pub lit_of_entry : Entry → Lit
 lit_of_entry e = e.lit
@@ -30,6 +38,14 @@ true_lits entries = map lit_of_entry entries
 -- the entry at a place
 abbrev pub entry_at : List Entry → ℕ → Entry
 entry_at entries p = slice_index_or entries p no_entry
+
+-- the literal stands at this place
+abbrev pub IsAt : List Entry → ℕ → Lit → Type 0
+IsAt entries q l = (q < length entries) × ((entry_at entries q).lit ≡ l)
+
+-- the literal is true at a level that isn't above j
+abbrev pub IsTrueBy : List Entry → ℕ → Lit → Type 0
+IsTrueBy entries j l = (q : ℕ) × IsAt entries q l × ((entry_at entries q).level ≤ j)
 
 -- neither the literal nor its complement is true
 abbrev pub IsUnassigned : List Entry → Lit → Type 0
