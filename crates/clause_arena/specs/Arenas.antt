@@ -21,9 +21,11 @@ literals clauses = sum_by (λ c. length c) clauses
 abbrev pub spare : ℕ → ℕ → ℕ
 spare room used = min room 4294967294 - used
 
+-- what stands for the place of a clause that isn't there
 abbrev pub no_span : Span
 no_span = record { start = 0; end = 0 }
 
+-- where a clause lies
 abbrev pub span_at : List Span → ℕ → Span
 span_at spans k = slice_index_or spans k no_span
 
@@ -31,6 +33,7 @@ span_at spans k = slice_index_or spans k no_span
 abbrev pub part : List Lit → Span → Clause
 part lits s = slice_range lits s.start s.end
 
+-- all clauses
 abbrev pub parts : List Lit → List Span → List Clause
 parts lits spans = map (part lits) spans
 

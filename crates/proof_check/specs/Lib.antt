@@ -1,0 +1,10 @@
+pub mod Lines
+pub mod Records
+pub mod Refs
+pub mod Following
+pub mod Marks
+pub mod Lives
+pub mod Verdicts
+pub mod Proper
+pub mod Laws
+pub mod Progress
