@@ -1,6 +1,6 @@
 -- A clause copied, each literal once.
 use Rattle.std.proofs.Common.{◌≡◌, ◌≢◌, ◌⊎◌, ℕ, ◌<◌, ◌≤◌, Bool, true, false, List, [], ◌∷◌, ◌++◌, length, Option, Some, None, IsSome, IsTrue, slice_get, slice_index_or, slice_set, replicate, refl, sym, ap, ◌∙◌, subst, inl, inr, arith, length-append}
-use Rattle.sat_trail.proofs.LitLemmas.{lit_same, same_var}
+use Rattle.sat_trail.proofs.LitLemmas.{same_var}
 use Rattle.sat_engine.specs.Steps.{IsWithin}
 use Rattle.std.specs.Option.{is_some}
 use Rattle.std.proofs.lemmas.Bool.{cases_eq, cases_lt, and_parts}
@@ -15,20 +15,12 @@ use Rattle.clause_arena.specs.Lits.{code_of}
 use Rattle.proof_check.specs.Marks.{Represent}
 use Rattle.proof_check.proofs.MarkLemmas.{represent_set}
 use Rattle.sat_trail.specs.Trails.{TrailState}
-use Rattle.watch_lists.specs.Watched.{IsCovered as Covers}
 use Rattle.watch_lists.specs.Watching.{Watching, listed, IsFit}
-use Rattle.sat_engine.specs.Searches.{IsSameSet, AreSameSets, IsAttached, AreIds}
+use Rattle.sat_engine.specs.Searches.{IsSameSet, AreSameSets, IsAttached}
 use Rattle.sat_engine.specs.Copies.{CopiesOne, IsCopy, IsLoaded}
-use Rattle.sat_engine.proofs.ScanLemmas.{in_split}
+use Rattle.sat_engine.proofs.PlaceLemmas.{in_split}
 use Rattle.sat_engine.proofs.MarkLemmas.{once_push}
-use Rattle.sat_engine.proofs.GlueLemmas.{get_push_at, get_below, known_at}
-
-pub same_here : (a b : Lit) → a.var ≡ b.var → a.negated ≡ true → b.negated ≡ true → a ≡ b
-same_here a b v p q = lit_same a b v (p ∙ sym q)
-
--- the literal is there already
-pub copies_none : (old : Clause) (l : Lit) → In l old → CopiesOne old old l false
-copies_none old l i = record { from = λ m j. inl j; stay = λ m j. j; here = i; few = omega arith; opposites = λ e. (let no : false ≡ true = e in cc); once = λ e once. once }
+use Rattle.sat_engine.proofs.KeepLemmas.{get_push_at, get_below, known_at}
 
 pub copies_push : (old : Clause) (l : Lit) (both : Bool) → (In l old → ⊥) → (both ≡ true → In (opposite l) old) → (both ≡ false → In (opposite l) old → ⊥) → CopiesOne old (old ++ l ∷ []) l both
 copies_push old l both fresh known unknown = record {
@@ -121,14 +113,6 @@ loaded_more formula clauses w w2 c new both id is loaded copy others here = reco
 pub within_all : (formula : List Clause) (n : ℕ) (c new : Clause) (both : Bool) (id : ℕ) → IsWithin formula n → id < length formula → clause_at formula id ≡ c → IsCopy c new both → (l : Lit) → In l new → l.var ≤ n
 within_all formula n c new both id within idl is copy l i = (within (clause_at formula id) (known_at formula id idl) l (subst (In l) (sym is) ((copy.same l).0 i))).1
 
--- a place past the clauses is free
-pub not_listed : (w : Watching) (clauses : List Clause) (k : ℕ) → AreIds w clauses → length clauses ≤ k → listed w k ≡ None
-not_listed w clauses k ids le = of (listed w k) (λ a. omega (arith, ids k a, le))
-  where
-    of : (o : Option (Lit × Lit)) → (IsSome o → ⊥) → o ≡ None
-    of None never = refl
-    of (Some x) never = absurd (never refl)
-
 pub fit_same : (w w2 : Watching) (clauses : List Clause) (t : TrailState) → w2.variables ≡ w.variables → ((k : ℕ) → listed w2 k ≡ listed w k) → IsFit w clauses t → IsFit w2 clauses t
 fit_same w w2 clauses t v same fit = record {
   variables = v ∙ fit.variables;
@@ -149,9 +133,6 @@ fit_none w t v none = record {
   where
     no : (k : ℕ) (x y : Lit) → listed w k ≡ Some (x, y) → ⊥
     no k x y e = let h : false ≡ true = sym (ap is_some (none k)) ∙ ap is_some e in cc
-
-pub never_covers : (t : TrailState) (x y : Lit) → t.entries ≡ [] → Covers t.entries t.given x y
-never_covers t x y none p pn pl is = absurd (omega (arith, pl, ap length none))
 
 -- the formula's own invariant, clause by clause
 pub formula_within : (n : ℕ) (formula : List Clause) → IsTrue (are_within n formula) → IsWithin formula n

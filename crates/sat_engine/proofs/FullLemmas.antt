@@ -9,17 +9,16 @@ use Rattle.sat_trail.specs.Propagation.{IsQuiet}
 use Rattle.std.proofs.lemmas.Bool.{cases_eq, ne_eqb, or_left, or_right}
 use Rattle.std.specs.Bool.{MatchBool}
 use Rattle.clause_arena.specs.Clauses.{Lit, opposite, Clause, In, lit_true, clause_true, Satisfies, by_place}
-use Rattle.sat_trail.specs.Trails.{Entry, TrailState, entry_at, true_lits, IsValue, IsTrail}
+use Rattle.sat_trail.specs.Trails.{Entry, TrailState, entry_at, true_lits, IsValue, IsTrail, IsAssigned}
 use Rattle.watch_lists.specs.Watching.{Watching}
-use Rattle.sat_engine.specs.Lessons.{IsOwned}
 use Rattle.sat_engine.specs.Searches.{IsSameSet, AreSameSets, AreFilled, IsSearching, IsLogged}
 use Rattle.sat_engine.specs.Verdicts.{IsFull}
 use Rattle.sat_engine.specs.Copies.{IsLoaded}
 use Rattle.sat_engine.specs.Outcomes.{AreAssigned}
-use Rattle.sat_engine.proofs.ScanLemmas.{true_place, place_true}
+use Rattle.sat_engine.proofs.PlaceLemmas.{true_place, place_true}
 use Rattle.sat_engine.proofs.LessonLemmas.{consistent}
 use Rattle.sat_engine.proofs.WalkLemmas.{get_is}
-use Rattle.sat_engine.proofs.GlueLemmas.{get_below}
+use Rattle.sat_engine.proofs.KeepLemmas.{get_below}
 use Rattle.sat_engine.proofs.SearchLemmas.{known_place, known_left, below_get}
 use Rattle.sat_engine.proofs.StepLemmas.{known_get}
 use Rattle.sat_engine.specs.Steps.{added}
@@ -27,7 +26,7 @@ use Rattle.sat_engine.proofs.LearnLemmas.{some_and}
 use Rattle.clause_arena.specs.Arenas.{clause_at}
 
 -- one more variable that has a value
-pub owned_more : (entries : List Entry) (n : ℕ) (l : Lit) (b : Bool) → l.var ≡ n + 1 → IsValue entries l (Some b) → ((v : ℕ) → 0 < v → v ≤ n → IsOwned entries v) → (v : ℕ) → 0 < v → v ≤ n + 1 → IsOwned entries v
+pub owned_more : (entries : List Entry) (n : ℕ) (l : Lit) (b : Bool) → l.var ≡ n + 1 → IsValue entries l (Some b) → ((v : ℕ) → 0 < v → v ≤ n → IsAssigned entries v) → (v : ℕ) → 0 < v → v ≤ n + 1 → IsAssigned entries v
 owned_more entries n l true e is before v pos le = elim (cases_eq v (n + 1)) [
   | inl same ↦ let p = true_place entries l is in (p.0, p.1.0, ap (λ (q : Lit). q.var) p.1.1 ∙ e ∙ sym same)
   | inr other ↦ before v pos (omega (arith, le, other))
@@ -53,10 +52,10 @@ pub spends : (budget : ℕ) (lines : List Line) (line : Line) → numbers lines 
 spends budget lines line less reached = record { reached = reached; not_before = stays_below budget lines line less }
 
 -- one of a quiet clause's literals is true where each variable has a value
-some_true : (entries : List Entry) (c : Clause) → c ≢ [] → ((l : Lit) → In l c → IsOwned entries l.var) → IsQuiet c (true_lits entries) → (l : Lit) × In l c × In l (true_lits entries)
+some_true : (entries : List Entry) (c : Clause) → c ≢ [] → ((l : Lit) → In l c → IsAssigned entries l.var) → IsQuiet c (true_lits entries) → (l : Lit) × In l c × In l (true_lits entries)
 some_true entries c ne owned quiet = elim (look c owned) [ inl found ↦ found | inr all ↦ last c ne quiet all ]
   where
-    look : (c : Clause) → ((l : Lit) → In l c → IsOwned entries l.var) → ((l : Lit) × In l c × In l (true_lits entries)) ⊎ ((m : Lit) → In m c → In (opposite m) (true_lits entries))
+    look : (c : Clause) → ((l : Lit) → In l c → IsAssigned entries l.var) → ((l : Lit) × In l c × In l (true_lits entries)) ⊎ ((m : Lit) → In m c → In (opposite m) (true_lits entries))
     look [] owned = inr (λ m i. absurd i)
     look (l ∷ c) owned =
         let o = owned l (inl refl) in
@@ -204,7 +203,3 @@ trail_fresh t n e = subst IsTrail (sym e) (record {
   given_in = omega arith;
   few = omega arith;
 })
-
-pub not_value : (t : TrailState) (l : Lit) (b : Bool) → IsTrail t → IsValue t.entries l (Some b) → b ≡ false → In l (true_lits t.entries) → ⊥
-not_value t l true trail is e i = (let no : true ≡ false = e in cc)
-not_value t l false trail is e i = consistent t trail l (true_place t.entries l i) (true_place t.entries (opposite l) is)

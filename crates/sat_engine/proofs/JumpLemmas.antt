@@ -8,7 +8,7 @@ use Rattle.clause_arena.specs.Arenas.{clause_at}
 use Rattle.sat_engine.specs.Findings.{HasReason}
 use Rattle.sat_engine.specs.Lessons.{IsTrueLit}
 use Rattle.sat_engine.specs.Searches.{AreQuietBelow, AreExplained}
-use Rattle.sat_engine.proofs.ScanLemmas.{same_lit}
+use Rattle.sat_engine.proofs.PlaceLemmas.{same_lit}
 
 pub first_part : (xs ys : List Entry) (p : ℕ) → p < length xs → entry_at (xs ++ ys) p ≡ entry_at xs p
 first_part [] ys p l = absurd (omega (arith, l))

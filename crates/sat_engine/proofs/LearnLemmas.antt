@@ -1,5 +1,5 @@
 -- Closed sets hold what propagation gives, and a cut of reasons leads through its hints.
-use Rattle.std.proofs.Common.{◌≡◌, ◌≢◌, ◌⊎◌, ℕ, Bool, true, false, not, List, [], ◌∷◌, Option, Some, IsSomeAnd, refl, sym, ap, ◌∙◌, subst, inl, inr}
+use Rattle.std.proofs.Common.{◌≡◌, ◌≢◌, ◌⊎◌, ℕ, Bool, true, false, not, List, [], ◌∷◌, Option, Some, IsSomeAnd, refl, ap, subst, inl, inr}
 use Rattle.proof_check.specs.Progress.{IsKnown, Propagated, given, forced, OthersFalse, IsNewBy}
 use Rattle.proof_check.specs.Following.{Live, AllFalse}
 use Rattle.clause_arena.specs.Clauses.{Lit, opposite, Clause, In}
@@ -36,15 +36,6 @@ new_by known S line x closed consistent filled i sub not_true not_false = record
     of_clause (m ∷ c) ne k all =
         let inside = λ (n : Lit). λ (j : In n (m ∷ c)). stays_inside known S (OthersFalse line x) closed sub (opposite n) (all n j) in
         consistent m (closed (m ∷ c) k m (inl refl) (λ n j d. inside n j)) (inside m (inl refl))
-
--- a learnt clause keeps a set closed that makes two of its literals neither
-pub closed_more : (known : List Clause) (S : Lit → Type 0) (line : Clause) (a b : Lit) →
-    IsClosed known S → In a line → In b line → a ≢ b → (S (opposite a) → ⊥) → (S (opposite b) → ⊥) → ((l : Lit) → (l ≡ a) ⊎ (l ≢ a)) → IsClosed (line ∷ known) S
-closed_more known S line a b closed ia ib ne fa fb same c (inl e) l i others = elim (same l) [
-  | inl is ↦ absurd (fb (others b (rw e ib) (λ bl. ne (sym (bl ∙ is)))))
-  | inr isnt ↦ absurd (fa (others a (rw e ia) (λ al. isnt (sym al))))
-]
-closed_more known S line a b closed ia ib ne fa fb same c (inr k) l i others = closed c k l i others
 
 pub some_and : (o : Option Clause) (c : Clause) (P : Clause → Type 0) → o ≡ Some c → P c → IsSomeAnd o P
 some_and o c P e p = rw e p

@@ -11,7 +11,7 @@ use Rattle.watch_lists.specs.Watching.{Watching, listed, IsFit, IsFitBelow}
 use Rattle.watch_lists.proofs.TrailFacts.{one_place}
 use Rattle.watch_lists.proofs.KeepLemmas.{fit_cut_below, fit_more, fit_push, cover_true, cover_highest}
 use Rattle.sat_engine.specs.Searches.{IsJump, IsOfLevel, IsSized}
-use Rattle.sat_engine.proofs.ScanLemmas.{place_true}
+use Rattle.sat_engine.proofs.PlaceLemmas.{place_true}
 use Rattle.sat_engine.proofs.JumpLemmas.{first_part, last_part}
 use Rattle.sat_engine.proofs.CopyLemmas.{fit_same}
 use Rattle.sat_engine.proofs.SetLemmas.{literals_same}

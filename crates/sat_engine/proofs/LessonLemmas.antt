@@ -4,10 +4,10 @@ use Rattle.sat_trail.proofs.LitLemmas.{opposite_twice, opposite_back}
 use Rattle.proof_check.specs.Following.{Live}
 use Rattle.std.proofs.lemmas.Bool.{cases_eq, cases_lt}
 use Rattle.clause_arena.specs.Clauses.{Lit, opposite, Clause, In, HasEachVariableOnce}
-use Rattle.sat_trail.specs.Trails.{TrailState, entry_at, IsTrail, IsAt}
+use Rattle.sat_trail.specs.Trails.{TrailState, entry_at, IsTrail, IsAt, IsAssigned}
 use Rattle.sat_engine.specs.Steps.{IsConsistent, CutLeads}
 use Rattle.sat_engine.proofs.LearnLemmas.{leads_first, leads_more}
-use Rattle.sat_engine.specs.Lessons.{SeenAt, IsTrueLit, IsCut, LiveAre, IsLesson, Analysing, AreRefuting, Gathers, IsOwned, IsPoint, IsReason, IsMarked, flag}
+use Rattle.sat_engine.specs.Lessons.{SeenAt, IsTrueLit, IsCut, LiveAre, IsLesson, Analysing, AreRefuting, Gathers, IsPoint, IsReason, IsMarked, flag}
 
 module _ (t : TrailState) (trail : IsTrail t) where
   -- one variable, one place
@@ -92,7 +92,7 @@ module _ (t : TrailState) (trail : IsTrail t) where
       (z_le : z2 ≤ z) (z_r : (entry_at t.entries r).level ≡ 0 → z2 ≤ r) (p_le : p2 ≤ p) (p_r : 0 < (entry_at t.entries r).level → p2 ≤ r)
       (fresh_places : (s : Lit) → In s a.resolved → (q : ℕ) → IsAt t.entries q s → r < q)
       (new_zeros : (q : ℕ) → z2 ≤ q → q < length t.entries → (entry_at t.entries q).level ≡ 0 → SeenAt t.entries new q → ⊥)
-      (gathers : Gathers t new more) (owned : (v : ℕ) → 0 < v → flag new v ≡ true → IsOwned t.entries v) (fits : length new ≡ t.variables) where
+      (gathers : Gathers t new more) (owned : (v : ℕ) → 0 < v → flag new v ≡ true → IsAssigned t.entries v) (fits : length new ≡ t.variables) where
     x : Lit
     x = (entry_at t.entries r).lit
 
@@ -143,7 +143,7 @@ module _ (t : TrailState) (trail : IsTrail t) where
     }
 
   pub start : (clauses : List Clause) (seen : List Bool) (others : List Lit) (id : ℕ) (c : Clause) → slice_get clauses id ≡ Some c →
-      ((m : Lit) → In m c → IsCut t.entries seen m) → Gathers t seen others → ((v : ℕ) → 0 < v → flag seen v ≡ true → IsOwned t.entries v) → length seen ≡ t.variables →
+      ((m : Lit) → In m c → IsCut t.entries seen m) → Gathers t seen others → ((v : ℕ) → 0 < v → flag seen v ≡ true → IsAssigned t.entries v) → length seen ≡ t.variables →
       Analysing clauses t seen (length t.entries) (length t.entries) others (suc id ∷ [])
   start clauses seen others id c is cut gathers owned fits = record {
     resolved = [];

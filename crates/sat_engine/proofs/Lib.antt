@@ -2,12 +2,12 @@ pub mod LearnLemmas
 pub mod LogLemmas
 pub mod BoundLemmas
 pub mod LessonLemmas
-pub mod ScanLemmas
+pub mod PlaceLemmas
 pub mod MarkLemmas
 pub mod WalkLemmas
 pub mod JumpLemmas
 pub mod SearchLemmas
-pub mod GlueLemmas
+pub mod KeepLemmas
 pub mod StepLemmas
 pub mod FullLemmas
 pub mod CopyLemmas

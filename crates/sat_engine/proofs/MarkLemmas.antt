@@ -2,11 +2,11 @@
 use Rattle.std.proofs.Common.{◌≡◌, ◌≢◌, ◌⊎◌, ℕ, zero, suc, ◌+◌, ◌-◌, ◌<◌, ◌≤◌, ◌==◌, ◌&&◌, if◌then◌else◌, Bool, true, false, List, [], ◌∷◌, ◌++◌, length, slice_set, refl, sym, ap, ◌∙◌, subst, inl, inr, arith, length-append, length-set, get_or-set_same, get_or-set_other}
 use Rattle.std.proofs.lemmas.Bool.{cases_eq, eq-eqb, ne_eqb, cases_Bool}
 use Rattle.clause_arena.specs.Clauses.{Lit, opposite, Clause, In, HasEachVariableOnce}
-use Rattle.sat_trail.specs.Trails.{Entry, TrailState, entry_at, IsTrail, IsAt}
-use Rattle.sat_engine.specs.Lessons.{SeenAt, IsOwned, flag, open_below, Gathers, MarksOne, MarksAll}
+use Rattle.sat_trail.specs.Trails.{Entry, TrailState, entry_at, IsTrail, IsAt, IsAssigned}
+use Rattle.sat_engine.specs.Lessons.{SeenAt, flag, open_below, Gathers, MarksOne, MarksAll}
 use Rattle.sat_trail.proofs.TrailLemmas.{in_more, in_last}
 use Rattle.sat_engine.proofs.LessonLemmas.{one_place, at_one}
-use Rattle.sat_engine.proofs.ScanLemmas.{in_split}
+use Rattle.sat_engine.proofs.PlaceLemmas.{in_split}
 use Rattle.sat_trail.proofs.LitLemmas.{opposite_twice}
 
 flag_same : (seen : List Bool) (v : ℕ) → 0 < v → v ≤ length seen → flag (slice_set seen (v - 1) true) v ≡ true
@@ -76,7 +76,7 @@ module _ (t : TrailState) (trail : IsTrail t) (seen : List Bool) (others : List 
       bits true n = omega arith
       bits false n = omega arith
 
-  owned : (v : ℕ) → 0 < v → flag new v ≡ true → (flag seen v ≡ true) ⊎ IsOwned t.entries v
+  owned : (v : ℕ) → 0 < v → flag new v ≡ true → (flag seen v ≡ true) ⊎ IsAssigned t.entries v
   owned v vpos e = elim (cases_eq v x.var) [
     | inl same ↦ inr (q0, at.0, x_var ∙ sym same)
     | inr other ↦ inl (sym (flag_other seen v x.var vpos pos other) ∙ e)
@@ -147,18 +147,6 @@ mark_none t seen others x gathers come = record {
   from = λ q ql s. inl s;
   stay = λ q ql s. s;
   come = come;
-  owned = λ v vpos e. inl e;
-  gathers = gathers;
-  count = omega arith;
-}
-
-pub marks_nil : (t : TrailState) (seen : List Bool) (others : List Lit) → Gathers t seen others → MarksAll t seen seen others [] 0
-marks_nil t seen others gathers = record {
-  same_length = refl;
-  few = omega arith;
-  from = λ q ql s. inl s;
-  stay = λ q ql s. s;
-  come = λ q m ql i. absurd i;
   owned = λ v vpos e. inl e;
   gathers = gathers;
   count = omega arith;

@@ -1,4 +1,4 @@
--- A lesson gives one more line of a progress log.
+-- A learnt clause as one more line of a progress log.
 use Rattle.std.proofs.Common.{◌≡◌, ◌≢◌, ℕ, zero, suc, ◌+◌, ◌-◌, ◌<◌, List, [], ◌∷◌, ◌++◌, length, Some, slice_get, refl, sym, ap, ◌∙◌, subst, inl, inr, arith, length-append, append_assoc}
 use Rattle.sat_trail.proofs.LitLemmas.{opposite_twice}
 use Rattle.proof_check.specs.Progress.{IsKnown, IsNew, OthersFalse}

@@ -10,7 +10,7 @@ use Rattle.sat_engine.specs.Findings.{HasReason}
 use Rattle.sat_engine.specs.Searches.{IsSameSet, AreSameSets, IsSearching, AreListed, IsLogged, IsWatchedOrTrue}
 use Rattle.watch_lists.specs.Watching.{Watching, AreSameAttached}
 use Rattle.sat_engine.proofs.WalkLemmas.{get_is}
-use Rattle.sat_engine.proofs.GlueLemmas.{get_below, at_get}
+use Rattle.sat_engine.proofs.KeepLemmas.{get_below, at_get}
 use Rattle.sat_engine.proofs.SearchLemmas.{known_place}
 use Rattle.sat_engine.proofs.StepLemmas.{known_get}
 

@@ -13,11 +13,8 @@ use Rattle.proof_check.specs.Lines.{ArePositive}
 use Rattle.sat_trail.proofs.TrailLemmas.{in_at}
 use Rattle.sat_engine.specs.Lessons.{IsFalseBetween, IsLesson, LiveAre}
 use Rattle.sat_engine.specs.Searches.{IsJump, IsSearching}
-use Rattle.sat_engine.proofs.ScanLemmas.{in_split}
+use Rattle.sat_engine.proofs.PlaceLemmas.{in_split}
 use Rattle.sat_engine.proofs.WalkLemmas.{lesson_within, lesson_false}
-
-pub jump_start : (t : TrailState) (x : Lit) → 0 < t.level → IsJump t x [] 0
-jump_start t x up = record { high = λ m i. absurd i; some = inl refl; below = up }
 
 in_both : (c : Clause) (y : Lit) → In y c → (x : Lit) → In x c → HasEachVariableOnce c → y.var ≡ x.var → y ≡ x
 in_both [] y i x j once e = absurd i

@@ -12,9 +12,9 @@ use Rattle.sat_engine.specs.Findings.{HasReason}
 use Rattle.sat_engine.specs.Searches.{AreExplained, IsSearching, AreListed}
 use Rattle.sat_engine.specs.Copies.{IsLoaded}
 use Rattle.sat_engine.specs.Units.{AreUnitsTrueTo, AreUnitsTrue}
-use Rattle.sat_engine.proofs.ScanLemmas.{true_place}
+use Rattle.sat_engine.proofs.PlaceLemmas.{true_place}
 use Rattle.sat_engine.proofs.JumpLemmas.{last_part, more_true}
-use Rattle.sat_engine.proofs.GlueLemmas.{explained_grow, at_get, get_below}
+use Rattle.sat_engine.proofs.KeepLemmas.{explained_grow, at_get, get_below}
 
 -- a clause of one literal holds no other
 pub only_one : (c : Clause) (l m : Lit) → length c ≡ 1 → In l c → In m c → m ≡ l

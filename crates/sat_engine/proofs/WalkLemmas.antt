@@ -5,14 +5,14 @@ use Rattle.std.specs.List.{All}
 use Rattle.std.proofs.lemmas.Bool.{cases_eq, cases_lt}
 use Rattle.std.proofs.lemmas.List.{reverse-append}
 use Rattle.clause_arena.specs.Clauses.{Lit, opposite, Clause, In}
-use Rattle.sat_trail.specs.Trails.{Entry, TrailState, entry_at, no_entry, true_lits, IsTrail, IsTrueBy, IsAt}
+use Rattle.sat_trail.specs.Trails.{Entry, TrailState, entry_at, no_entry, true_lits, IsTrail, IsTrueBy, IsAt, IsAssigned}
 use Rattle.sat_trail.proofs.LitLemmas.{opposite_twice}
 use Rattle.clause_arena.specs.Arenas.{clause_at}
 use Rattle.sat_engine.specs.Findings.{HasReason}
 use Rattle.sat_engine.specs.Searches.{AreExplained, AreFilled, AreQuietBelow}
-use Rattle.sat_engine.specs.Lessons.{SeenAt, IsTrueLit, IsCut, IsLesson, IsClear, IsOwned, IsPoint, Analysing, IsReason, IsMarked, Gathers, MarksAll, Walking, Touches, IsUnmarked, IsSameAbove, flag}
+use Rattle.sat_engine.specs.Lessons.{SeenAt, IsTrueLit, IsCut, IsLesson, IsClear, IsPoint, Analysing, IsReason, IsMarked, Gathers, MarksAll, Walking, Touches, IsUnmarked, IsSameAbove, flag}
 use Rattle.sat_engine.proofs.LessonLemmas.{one_place, at_one, consistent, start, resolve, finish}
-use Rattle.sat_engine.proofs.ScanLemmas.{true_place, in_split, same_lit}
+use Rattle.sat_engine.proofs.PlaceLemmas.{true_place, in_split, same_lit}
 use Rattle.sat_trail.proofs.TrailLemmas.{in_more, in_last}
 use Rattle.sat_engine.proofs.MarkLemmas.{less_other, less_here, less_var, less_count, once_push, two_open, none_open, one_open}
 
@@ -80,8 +80,8 @@ module _ (clauses : List Clause) (t : TrailState) (trail : IsTrail t) where
   }
 
   -- after the marks of a reason, what is seen has a value
-  owned_after : (seen new : List Bool) (r n : ℕ) (more : List Lit) (c : Clause) (fits : length seen ≡ t.variables) (rl : r < length t.entries) (here : SeenAt t.entries seen r) → ((v : ℕ) → 0 < v → flag seen v ≡ true → IsOwned t.entries v) →
-      MarksAll t (slice_set seen ((entry_at t.entries r).lit.var - 1) false) new more c n → (v : ℕ) → 0 < v → flag new v ≡ true → IsOwned t.entries v
+  owned_after : (seen new : List Bool) (r n : ℕ) (more : List Lit) (c : Clause) (fits : length seen ≡ t.variables) (rl : r < length t.entries) (here : SeenAt t.entries seen r) → ((v : ℕ) → 0 < v → flag seen v ≡ true → IsAssigned t.entries v) →
+      MarksAll t (slice_set seen ((entry_at t.entries r).lit.var - 1) false) new more c n → (v : ℕ) → 0 < v → flag new v ≡ true → IsAssigned t.entries v
   owned_after seen new r n more c fits rl here owned all v vpos e = elim (all.owned v vpos e) [
     | inl old ↦ owned v vpos (less_var t trail seen fits r rl here v vpos old)
     | inr it ↦ it
@@ -190,7 +190,7 @@ module _ (clauses : List Clause) (t : TrailState) (trail : IsTrail t) where
       cut : (m : Lit) → In m (clause_at clauses id) → IsCut t.entries new m
       cut m i = let p = true_place t.entries (opposite m) (false_in m i) in (p.0, p.1, all.come p.0 m p.1.0 i p.1.1)
 
-      owned : (v : ℕ) → 0 < v → flag new v ≡ true → IsOwned t.entries v
+      owned : (v : ℕ) → 0 < v → flag new v ≡ true → IsAssigned t.entries v
       owned v vpos e = elim (all.owned v vpos e) [ inl old ↦ absurd (let no : true ≡ false = sym old ∙ clear v vpos in cc) | inr it ↦ it ]
 
   pub none_seen : (seen : List Bool) → IsClear seen → (q : ℕ) → q < length t.entries → SeenAt t.entries seen q → ⊥

@@ -21,7 +21,7 @@ pub record IsCopy (clause new : Clause) (both : Bool) : Type 0 where
   pub opposites : both ≡ true → (l : Lit) × In l new × In (opposite l) new
   pub once : both ≡ false → HasEachVariableOnce new
 
--- the clauses are the formula's, as sets; those that aren't attached hold a variable in both signs, or one literal at most
+-- the clauses are the formula's, as sets; each is attached, or holds a variable in both signs, or one literal at most
 pub record IsLoaded (formula clauses : List Clause) (w : Watching) : Type 0 where
   pub same : AreSameSets clauses formula
   pub few : literals clauses ≤ literals formula

@@ -2,7 +2,7 @@
 use Rattle.std.specs.Prelude.{◌≡◌, ◌≢◌, ◌⊎◌, ℕ, zero, suc, ◌+◌, ◌-◌, ◌<◌, ◌≤◌, Bool, true, false, if◌then◌else◌, ◌&&◌, ◌==◌, List, [], ◌∷◌, reverse, length, Some, slice_get, slice_index_or}
 use Rattle.proof_check.specs.Following.{Live, HintsLead}
 use Rattle.clause_arena.specs.Clauses.{Lit, opposite, Clause, In, HasEachVariableOnce}
-use Rattle.sat_trail.specs.Trails.{IsAt, Entry, TrailState, entry_at}
+use Rattle.sat_trail.specs.Trails.{IsAt, Entry, TrailState, entry_at, IsAssigned}
 use Rattle.sat_engine.specs.Steps.{CutLeads}
 
 -- whether a variable is seen
@@ -51,11 +51,7 @@ pub record Gathers (t : TrailState) (seen : List Bool) (others : List Lit) : Typ
   pub gathered : (q : ℕ) → q < length t.entries → 0 < (entry_at t.entries q).level → (entry_at t.entries q).level < t.level → SeenAt t.entries seen q → In (opposite (entry_at t.entries q).lit) others
   pub once : HasEachVariableOnce others
 
--- v is the variable of a literal that has a value
-abbrev pub IsOwned : List Entry → ℕ → Type 0
-IsOwned entries v = (q : ℕ) × (q < length entries) × ((entry_at entries q).lit.var ≡ v)
-
--- the hints lead from all that is seen; what was resolved isn't seen, and stands at z or later at level 0, at p or later above it
+-- the hints lead from all that is seen; what was resolved isn't seen, and stands at z or later, or above level 0 at p or later
 pub record Analysing (clauses : List Clause) (t : TrailState) (seen : List Bool) (p z : ℕ) (others : List Lit) (hints : List ℕ) : Type 0 where
   pub resolved : List Lit
   pub gone : (r : Lit) → In r resolved → (q : ℕ) × IsAt t.entries q r × (SeenAt t.entries seen q → ⊥) × ((entry_at t.entries q).level ≡ 0 → z ≤ q) × (0 < (entry_at t.entries q).level → p ≤ q)
@@ -63,7 +59,7 @@ pub record Analysing (clauses : List Clause) (t : TrailState) (seen : List Bool)
   pub head : (k : ℕ) × (rest : List ℕ) × (hints ≡ k ∷ rest)
   pub zeros : (q : ℕ) → z ≤ q → q < length t.entries → (entry_at t.entries q).level ≡ 0 → SeenAt t.entries seen q → ⊥
   pub gathers : Gathers t seen others
-  pub owned : (v : ℕ) → 0 < v → flag seen v ≡ true → IsOwned t.entries v
+  pub owned : (v : ℕ) → 0 < v → flag seen v ≡ true → IsAssigned t.entries v
   pub fits : length seen ≡ t.variables
 
 -- r at place p is the reason clause's one literal that isn't false before it
@@ -90,7 +86,7 @@ pub record MarksOne (t : TrailState) (seen new : List Bool) (others more : List 
   pub from : (q : ℕ) → q < length t.entries → SeenAt t.entries new q → SeenAt t.entries seen q ⊎ ((entry_at t.entries q).lit ≡ opposite x)
   pub stay : (q : ℕ) → q < length t.entries → SeenAt t.entries seen q → SeenAt t.entries new q
   pub come : (q : ℕ) → q < length t.entries → (entry_at t.entries q).lit ≡ opposite x → SeenAt t.entries new q
-  pub owned : (v : ℕ) → 0 < v → flag new v ≡ true → (flag seen v ≡ true) ⊎ IsOwned t.entries v
+  pub owned : (v : ℕ) → 0 < v → flag new v ≡ true → (flag seen v ≡ true) ⊎ IsAssigned t.entries v
   pub gathers : Gathers t new more
   pub count : open_below t.entries new t.level (length t.entries) ≡ open_below t.entries seen t.level (length t.entries) + n
 
@@ -101,7 +97,7 @@ pub record MarksAll (t : TrailState) (seen new : List Bool) (more : List Lit) (c
   pub from : (q : ℕ) → q < length t.entries → SeenAt t.entries new q → SeenAt t.entries seen q ⊎ ((m : Lit) × In m c × ((entry_at t.entries q).lit ≡ opposite m))
   pub stay : (q : ℕ) → q < length t.entries → SeenAt t.entries seen q → SeenAt t.entries new q
   pub come : (q : ℕ) (m : Lit) → q < length t.entries → In m c → (entry_at t.entries q).lit ≡ opposite m → SeenAt t.entries new q
-  pub owned : (v : ℕ) → 0 < v → flag new v ≡ true → (flag seen v ≡ true) ⊎ IsOwned t.entries v
+  pub owned : (v : ℕ) → 0 < v → flag new v ≡ true → (flag seen v ≡ true) ⊎ IsAssigned t.entries v
   pub gathers : Gathers t new more
   pub count : open_below t.entries new t.level (length t.entries) ≡ open_below t.entries seen t.level (length t.entries) + n
 

@@ -7,8 +7,7 @@ use Rattle.sat_trail.specs.Trails.{TrailState, true_lits}
 use Rattle.sat_engine.specs.declared.outcome.Outcome.{Outcome}
 use Rattle.sat_engine.specs.declared.outcome.Outcome.TheVariants.{Sat, Refuted, Open}
 
--- Sat: an assignment of all variables that satisfies the formula. Refuted: a log that refutes it and has less numbers than the budget but
--- for its last line. Open: a progress log of it that spends the budget, which is not above a bound that the number of variables gives
+-- an assignment of all variables that satisfies the formula, a log that refutes it, or a progress log that spends the budget
 abbrev pub IsOutcomeOf : ℕ → List Clause → ℕ → Outcome → Type 0
 IsOutcomeOf variables formula budget (Sat values) = (length values.items ≡ variables) × Satisfies (by_place values.items) formula
 IsOutcomeOf variables formula budget (Refuted log) = (log.first ≡ length formula) × Refutes variables formula log.lines × StaysBelow budget log.lines

@@ -6,7 +6,7 @@ use Rattle.proof_check.specs.Progress.{IsProgressLog}
 use Rattle.proof_check.specs.Lines.{Line, numbers, last_id}
 use Rattle.clause_arena.specs.Clauses.{Lit, opposite, Clause, In}
 use Rattle.clause_arena.specs.Arenas.{literals}
-use Rattle.sat_trail.specs.Trails.{Entry, TrailState, entry_at, IsTrail, IsAt, IsTrueBy}
+use Rattle.sat_trail.specs.Trails.{Entry, TrailState, entry_at, IsTrail, IsAt, IsTrueBy, IsAssigned}
 use Rattle.sat_engine.specs.Steps.{added, CountsFrom}
 use Rattle.sat_engine.specs.Findings.{HasReason}
 use Rattle.watch_lists.specs.Watching.{Watching, listed}
@@ -86,4 +86,4 @@ pub record IsJump (t : TrailState) (x : Lit) (lits : List Lit) (jump : ℕ) : Ty
 
 -- every variable has a value
 abbrev pub AllAssigned : TrailState → Type 0
-AllAssigned t = (var : ℕ) → 0 < var → var ≤ t.variables → (q : ℕ) × (q < length t.entries) × ((entry_at t.entries q).lit.var ≡ var)
+AllAssigned t = (var : ℕ) → 0 < var → var ≤ t.variables → IsAssigned t.entries var

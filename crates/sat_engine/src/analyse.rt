@@ -1,8 +1,9 @@
-//! From a conflict to a learnt clause (Marques-Silva and Sakallah, GRASP, 1999; Eén and Sörensson, MiniSat, 2003). From
-//! the false clause backwards along the trail, each seen literal of the present level is resolved with its reason until
-//! one is left: the first point of implication. The learnt clause has its complement and the seen literals of lower
-//! levels. Then the seen literals of level 0 are resolved away too. The ids of the clauses that were used, from the
-//! last one back to the conflict, are the hints, which lead propagation from the complements of the clause to that conflict.
+//! From a conflict to a learnt clause (Marques-Silva and Sakallah, GRASP, 1999; Eén and Sörensson, MiniSat, 2003).
+//! From the false clause backwards along the trail, each seen literal of the present level is resolved with its reason
+//! until one is left: the first point of implication. The learnt clause has its complement and the seen literals of
+//! lower levels. Then the seen literals of level 0 are resolved away too. The ids of the clauses that were used, from
+//! the last one back to the conflict, are the hints, which lead propagation from the complements of the clause to that
+//! conflict.
 ghost use Rattle.std.specs.Prelude.{◌≡◌, ◌+◌, ◌<◌, ◌≤◌, ◌^◌, [], length, vec_len, reverse, ℕ, IfOk};
 ghost use Rattle.sat_trail.specs.Propagation.{IsFalseIn};
 ghost use Rattle.std.specs.List.{All};

@@ -1,7 +1,7 @@
-//! Which literal is decided next: the variable of the lowest block that has no value and is the most active in it, with
-//! the value that it had last. The variables of the clauses that led to a conflict are rewarded, and later rewards count more
-//! (Moskewicz et al., Chaff, 2001; as kept in MiniSat, 2003: one step that grows by 1 / 0.95 a conflict, and a binary heap).
-//! Kept values are those of Pipatsrisawat and Darwiche, 2007.
+//! Which literal is decided next: the variable of the lowest block that has no value and is the most active in it,
+//! with the value that it had last. The variables of the clauses that led to a conflict are rewarded, and later
+//! rewards count more (Moskewicz et al., Chaff, 2001; as kept in MiniSat, 2003: one step that grows by 1 / 0.95 a
+//! conflict, and a binary heap). Kept values are those of Pipatsrisawat and Darwiche, 2007.
 //!
 //! Only `next` has a contract, and it rests on nothing that is kept here: what comes out of the heap is tested, and at
 //! an empty heap the variables are gone through once. So no clause speaks of the heap.
@@ -15,9 +15,9 @@ use cpog_base::Memory;
 use sat_trail::Trail;
 use std::alloc::Global;
 
-/// For each variable its block, its activity, the value that it gets when it is decided, its place in the heap, and the
-/// conflict at which it was rewarded last; the heap; and how much a reward counts now. The lists by variable have a place
-/// 0 that isn't used.
+/// For each variable its block, its activity, the value that it gets when it is decided, its place in the heap, and
+/// the conflict at which it was rewarded last; the heap; and how much a reward counts now. The lists by variable have
+/// a place 0 that isn't used.
 #[derive(Drop)]
 pub struct Decisions {
     blocks: Vec<u32>,

@@ -1,5 +1,5 @@
-//! From a conflict to one more known clause, or to the empty line that ends a refutation. All memory that a conflict takes is
-//! asked for before the first change, so where it is refused the log and the clauses agree as before.
+//! From a conflict to one more known clause, or to the empty line that ends a refutation. All memory that a conflict
+//! takes is asked for before the first change, so where it is refused the log and the clauses agree as before.
 ghost use Rattle.std.specs.Prelude.{◌≡◌, ◌≢◌, ◌+◌, ◌<◌, ◌≤◌, ◌^◌, [], ◌∷◌, ◌++◌, ℕ, List, length, vec_len, vec_capacity, max, IfOk};
 ghost use Rattle.proof_check.specs.Following.{Refutes};
 ghost use Rattle.proof_check.specs.Lines.{Line, Add, numbers, numbers_of};

@@ -4,8 +4,9 @@
 use cpog_base::Memory;
 use std::alloc::Global;
 
-/// For each variable, from 1 at place 0, its block and its first value. The variables of a lower block are decided before
-/// those of a higher one. A variable past the end of `blocks` is of the last block; one past the end of `phases` is first made true.
+/// For each variable, from 1 at place 0, its block and its first value. The variables of a lower block are decided
+/// before those of a higher one. A variable past the end of `blocks` is of the last block; one past the end of
+/// `phases` is first made true.
 #[derive(Drop)]
 pub struct Preferences {
     pub blocks: Vec<u32>,
@@ -21,7 +22,8 @@ impl Preferences {
         }
     }
 
-    /// One block a list, in their order; the variables of no list come last. A number that is no variable is passed over.
+    /// One block a list, in their order; the variables of no list come last. A number that is no variable is passed
+    /// over.
     pub fn of_blocks(
         alloc: Global,
         variables: u32,

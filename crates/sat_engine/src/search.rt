@@ -1,6 +1,6 @@
-//! The search (Eén and Sörensson, MiniSat, 2003): propagate and decide until a clause is false; at level 0 that refutes
-//! the formula, else learn a clause and go back to where it makes a literal true. It ends too where every variable has a
-//! value, and where the log has as many numbers as the budget.
+//! The search (Eén and Sörensson, MiniSat, 2003): propagate and decide until a clause is false; at level 0 that
+//! refutes the formula, else learn a clause and go back to where it makes a literal true. It ends too where every
+//! variable has a value, and where the log has as many numbers as the budget.
 ghost use Rattle.std.specs.Prelude.{◌≡◌, ◌+◌, ◌<◌, ◌≤◌, ◌^◌, List, length, IfOk, MatchOption};
 ghost use Rattle.proof_check.specs.Lines.{numbers};
 ghost use Rattle.sat_trail.specs.Propagation.{IsFalseIn};

@@ -67,8 +67,8 @@ pub fn solve(alloc: Global, cnf: &Cnf, budget: u32) -> Result<Outcome, Memory>
     solve_in_blocks(alloc, cnf, budget, &Preferences::none(alloc))
 }
 
-/// Decides a formula as `solve` does, with the variables of each block before those of later blocks, and with first values
-/// that are preferred.
+/// Decides a formula as `solve` does, with the variables of each block before those of later blocks, and with first
+/// values that are preferred.
 ///
 /// # Errors
 ///

@@ -1,13 +1,13 @@
 -- How the fit is kept by a cut of the trail, by one more literal, and by one more clause in the arena.
-use Rattle.std.proofs.Common.{◌≡◌, ◌⊎◌, ℕ, zero, suc, ◌+◌, ◌-◌, ◌<◌, ◌≤◌, List, [], ◌∷◌, ◌++◌, length, sym, ap, ◌∙◌, subst, inl, inr, arith, length-append}
-use Rattle.std.proofs.lemmas.Bool.{cases_eq, cases_lt}
+use Rattle.std.proofs.Common.{◌≡◌, ℕ, zero, suc, ◌+◌, ◌-◌, ◌<◌, ◌≤◌, List, [], ◌∷◌, ◌++◌, length, sym, ap, ◌∙◌, subst, inl, inr, arith, length-append}
+use Rattle.std.proofs.lemmas.Bool.{cases_lt}
 use Rattle.std.proofs.lemmas.List.{get_or_append_left, get_or_at}
 use Rattle.clause_arena.specs.Clauses.{Lit, opposite, Clause, In}
 use Rattle.sat_trail.specs.Trails.{Entry, TrailState, entry_at, no_entry, true_lits, IsTrail, IsCutTo, IsTrueBy}
 use Rattle.clause_arena.specs.Arenas.{clause_at}
 use Rattle.watch_lists.specs.Watched.{IsCovered}
-use Rattle.watch_lists.specs.Watching.{Watching, IsFit, IsFitBelow, IsCoveredBelow, ArePending}
-use Rattle.watch_lists.proofs.TrailFacts.{entry_before, entry_last, covered_more, consistent, place_true, true_by_level}
+use Rattle.watch_lists.specs.Watching.{Watching, IsFit, IsFitBelow, IsCoveredBelow}
+use Rattle.watch_lists.proofs.TrailFacts.{covered_more, consistent, place_true, true_by_level}
 
 module _ (t t2 : TrailState) (level : ℕ) (cut : IsCutTo t t2 level) where
   same_entry : (p : ℕ) → p < length t2.entries → entry_at t.entries p ≡ entry_at t2.entries p
@@ -66,17 +66,6 @@ module _ (t t2 : TrailState) (level : ℕ) (cut : IsCutTo t t2 level) where
     cover = λ k x y e. let c = fit.cover k x y e in (cut_cover_below high lt x y c.0, cut_cover_below high lt y x c.1);
   }
 
-  pub pending_cut : level ≤ t.level → ArePending t → ArePending t2
-  pending_cut le pending p from pl = elim (cases_lt t.given (length t2.entries)) [
-    | inl early ↦
-        let same : t2.given ≡ t.given = cut.given_is.0 (omega (arith, early)) in
-        let size : length t.entries ≡ length t2.entries + length cut.rest = ap length cut.split ∙ length-append t2.entries cut.rest in
-        let e = same_entry p pl in
-        let l = pending p (omega (arith, from, same)) (omega (arith, pl, size)) in
-        omega (arith, l, ap (λ (n : Entry). n.level) e, cut.low p pl, le, cut.level_is)
-    | inr late ↦ absurd (omega (arith, cut.given_is.1 late, from, pl))
-  ]
-
 -- one more literal
 pub fit_more : (w : Watching) (clauses : List Clause) (t t2 : TrailState) (e : Entry) → t2.entries ≡ t.entries ++ e ∷ [] → t2.given ≡ t.given → t2.variables ≡ t.variables → t.given ≤ length t.entries → IsFit w clauses t → IsFit w clauses t2
 fit_more w clauses t t2 e more given variables fits fit = record {
@@ -88,18 +77,6 @@ fit_more w clauses t t2 e more given variables fits fit = record {
       let c = fit.cover k x y is in
       (rw (more, given) (covered_more t.entries e t.given x y fits c.0), rw (more, given) (covered_more t.entries e t.given y x fits c.1));
 }
-
-pub pending_more : (t t2 : TrailState) (e : Entry) → t2.entries ≡ t.entries ++ e ∷ [] → t2.given ≡ t.given → e.level ≡ t2.level → (t2.level ≡ t.level) ⊎ (t.given ≡ length t.entries) → ArePending t → ArePending t2
-pending_more t t2 e more given level cases pending p from pl = elim (cases_eq p (length t.entries)) [
-  | inl last ↦ rw more (ap (λ (n : Entry). n.level) (entry_last t.entries e p last) ∙ level)
-  | inr other ↦
-      let size : length t2.entries ≡ length t.entries + 1 = ap length more ∙ length-append t.entries (e ∷ []) in
-      let low : p < length t.entries = omega (arith, pl, size, other) in
-      elim cases [
-        | inl same ↦ rw more (ap (λ (n : Entry). n.level) (entry_before t.entries e p low) ∙ pending p (omega (arith, from, given)) low ∙ sym same)
-        | inr all ↦ absurd (omega (arith, all, from, given, low))
-      ]
-]
 
 -- one more clause
 pub fit_push : (w : Watching) (clauses : List Clause) (c : Clause) (t : TrailState) → ((l : Lit) → In l c → l.var ≤ t.variables) → IsFit w clauses t → IsFit w (clauses ++ c ∷ []) t

@@ -7,7 +7,7 @@ use Rattle.clause_arena.specs.Lits.{code_of}
 use Rattle.watch_lists.specs.declared.link.Link.{Link}
 use Rattle.watch_lists.specs.Chains.{AreLists}
 use Rattle.watch_lists.specs.Watched.{link_at, no_link, next_at, other_at, own_code, sibling, IsNode}
-use Rattle.watch_lists.specs.Watching.{Watching, listed, reserved, pair_of, view_of, AreKept}
+use Rattle.watch_lists.specs.Watching.{listed, reserved, pair_of, view_of, AreKept}
 use Rattle.watch_lists.proofs.ChainLemmas.{lists_owners, lists_nexts}
 use Rattle.watch_lists.proofs.FitLemmas.{listed_is, reserved_is, variables_is}
 
@@ -56,9 +56,6 @@ lists_size heads size size2 next own lists are le low = record {
 }
 
 module _ (links : List Link) (d : ℕ) (o : Lit) where
-  pub more_links : List Link
-  more_links = links ++ replicate d (free_link o)
-
   pub next_more : (k : ℕ) → next_at (links ++ replicate d (free_link o)) k ≡ next_at links k
   next_more k = elim (cases_lt k (length links)) [
     | inl l ↦ ap (λ (q : Link). q.next) (get_or_append_left links (replicate d (free_link o)) no_link k l)
@@ -122,6 +119,3 @@ module _ (links : List Link) (d : ℕ) (o : Lit) where
 
   pub more_reserved : (heads c : ℕ) → heads + 2 * c ≡ length links + d → reserved (view_of heads (links ++ replicate d (free_link o))) ≡ c
   more_reserved heads c grown = reserved_is heads (links ++ replicate d (free_link o)) c (omega (arith, length-append links (replicate d (free_link o)), length-replicate d (free_link o), grown))
-
-pub watching_same : (v w : Watching) → v.variables ≡ w.variables → v.pairs ≡ w.pairs → v ≡ w
-watching_same v w a b = ap (λ q. record { variables = q; pairs = v.pairs }) a ∙ ap (λ q. record { variables = w.variables; pairs = q }) b

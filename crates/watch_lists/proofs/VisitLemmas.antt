@@ -42,9 +42,6 @@ module _ (heads variables : ℕ) (links : List Link) (clauses : List Clause) (ti
   pub sib_node : (m : ℕ) → IsNode heads links m → IsNode heads links (sibling m)
   sib_node m n = (sib_from heads variables m tied.even n.0, sib_below heads variables (length links) tied.whole.0 m tied.even tied.whole.1 n.1, tied.paired m n)
 
-  pub clause_of : (m : ℕ) → Clause
-  clause_of m = clause_at clauses (place_of heads m)
-
   pub other_listing : (m : ℕ) → IsNode heads links m → lit_at (clause_at clauses (place_of heads m)) (1 - m % 2) ≡ other_at links m
   other_listing m n =
       let l = tied.listing (sibling m) (sib_node m n) in
@@ -104,9 +101,6 @@ module _ (heads variables : ℕ) (links links2 : List Link) (clauses : List Clau
 
   here_is : clause_at moved_clauses (place_of heads m) ≡ swap c_before (m % 2) j
   here_is = clause_here clauses (place_of heads m) (swap c_before (m % 2) j) (tied.held m node).0
-
-  sib_not : m ≢ sibling m
-  sib_not = omega arith
 
   pub own_moved : own_at links2 m ≡ lit_at c_before j
   own_moved = relinked.watched
@@ -175,9 +169,6 @@ module _ (heads : ℕ) (links : List Link) (clauses : List Clause) (t : TrailSta
 
   pub m_own : own_at links m ≡ a
   m_own = code_same (own_at links m) a (fit.are.sound (code_of a) m v.low v.high m_has).2
-
-  pub m_next : next_at links before ≡ m
-  m_next = (left_is heads links clauses t a before lists done (m ∷ rest) v).1.0
 
   pub a_false : In (opposite a) (true_lits t.entries)
   a_false = place_true t.entries (t.given - 1) (opposite a) (omega (arith, v.given, fit.trail.given_in)) v.here

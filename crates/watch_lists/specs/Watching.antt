@@ -50,7 +50,7 @@ pub record AreKept (heads : ℕ) (links : List Link) : Type 0 where
   pub paired : (m : ℕ) → IsNode heads links m → IsListed links (sibling m)
   pub lists : (lists : ℕ → List ℕ) × AreLists heads (length links) (next_at links) (own_code links) lists
 
--- one number of variables; each attached clause is listed under its first two literals, which cover each other, and has different variables
+-- each attached clause has different variables and is listed under its first two literals, which cover each other
 pub record IsFit (w : Watching) (clauses : List Clause) (t : TrailState) : Type 0 where
   pub variables : w.variables ≡ t.variables
   pub within : AreWithin clauses t.variables

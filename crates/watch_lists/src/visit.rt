@@ -1,5 +1,5 @@
-//! Propagation along the lists: what is done at one node, along one list, and along the lists of all literals that became
-//! false. A node whose clause isn't read touches its link and one value alone.
+//! Propagation along the lists: what is done at one node, along one list, and along the lists of all literals that
+//! became false. A node whose clause isn't read touches its link and one value alone.
 ghost use Rattle.std.specs.Prelude.{◌≡◌, ◌≢◌, ℕ, ◌+◌, ◌-◌, ◌*◌, ◌%◌, ◌<◌, ◌≤◌, ◌^◌, [], length, slice_set};
 ghost use Rattle.std.specs.List.{swap};
 ghost use Rattle.clause_arena.specs.Clauses.{In, opposite};

@@ -61,8 +61,8 @@ impl Watches {
         Ok(Watches { links, heads })
     }
 
-    /// Makes the places of all clauses with numbers below this one, so that they can be attached without memory. `Memory`
-    /// also where heads and nodes would be 2 ^ 32 and more; then all is as before.
+    /// Makes the places of all clauses with numbers below this one, so that they can be attached without memory.
+    /// `Memory` also where heads and nodes would be 2 ^ 32 and more; then all is as before.
     pub fn reserve(&mut self, clauses: u32) -> Result<(), Memory>
         ensures variables { self.new.variables ≡ self.old.variables }
         ensures listed { (k : ℕ) → listed self.new k ≡ listed self.old k }

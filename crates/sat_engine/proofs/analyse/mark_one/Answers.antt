@@ -3,7 +3,7 @@ use Rattle.std.proofs.lemmas.List.{get_or_read}
 use Rattle.clause_arena.specs.Clauses.{Lit, opposite, In}
 use Rattle.sat_trail.specs.Trails.{entry_at, true_lits}
 use Rattle.sat_engine.specs.Lessons.{flag}
-use Rattle.sat_engine.proofs.ScanLemmas.{true_place, place_true}
+use Rattle.sat_engine.proofs.PlaceLemmas.{true_place, place_true}
 use Rattle.sat_engine.proofs.LessonLemmas.{consistent}
 use Rattle.sat_engine.proofs.MarkLemmas.{mark_level, mark_zero, mark_lower, mark_none}
 use Rattle.sat_engine.proofs.analyse.mark_one.Goals as goal

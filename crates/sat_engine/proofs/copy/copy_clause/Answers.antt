@@ -1,7 +1,7 @@
 use Rattle.std.proofs.Common.{◌≡◌, ◌+◌, ◌++◌, ◌∷◌, [], take, sym, ap, ◌∙◌, subst, arith}
 use Rattle.std.proofs.lemmas.List.{take_more}
 use Rattle.sat_engine.specs.Copies.{CopiesOne, IsCopy}
-use Rattle.sat_engine.proofs.ScanLemmas.{in_read}
+use Rattle.sat_engine.proofs.PlaceLemmas.{in_read}
 use Rattle.sat_engine.proofs.CopyLemmas.{copy_none, copy_found, copy_more, represent_fresh}
 use Rattle.sat_engine.proofs.copy.copy_clause.Goals as goal
 use Rattle.sat_engine.proofs.copy.copy_clause.Goals.{then-branch, else-branch}

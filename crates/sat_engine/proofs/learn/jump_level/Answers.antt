@@ -3,7 +3,7 @@ use Rattle.std.proofs.lemmas.List.{take_more}
 use Rattle.clause_arena.specs.Clauses.{Lit, In}
 use Rattle.sat_trail.specs.Trails.{entry_at}
 use Rattle.sat_engine.specs.Searches.{IsJump}
-use Rattle.sat_engine.proofs.ScanLemmas.{in_read}
+use Rattle.sat_engine.proofs.PlaceLemmas.{in_read}
 use Rattle.sat_engine.proofs.StepLemmas.{lower_assigned, one_of, jump_same, jump_more}
 use Rattle.sat_engine.proofs.learn.jump_level.Goals as goal
 use Rattle.sat_engine.proofs.learn.jump_level.Goals.{then-var, else-var}

@@ -6,7 +6,7 @@ use Rattle.clause_arena.specs.Arenas.{clause_at}
 use Rattle.sat_trail.specs.Trails.{Entry, TrailState, lit_at}
 use Rattle.sat_engine.specs.Searches.{IsJump, IsAttached}
 use Rattle.sat_engine.proofs.SearchLemmas.{learn_line}
-use Rattle.sat_engine.proofs.GlueLemmas.{unit_ground, within_at, keep_cut, keep_learnt, jump_open, clause_push_here, listed_learnt, listed_cut}
+use Rattle.sat_engine.proofs.KeepLemmas.{unit_ground, within_at, keep_cut, keep_learnt, jump_open, clause_push_here, listed_learnt, listed_cut}
 use Rattle.sat_engine.proofs.LearntLemmas.{first_covers, second_covers, fit_learnt}
 use Rattle.sat_engine.proofs.WalkLemmas.{lesson_within}
 use Rattle.sat_engine.proofs.StepLemmas.{lesson_short, hints_some, hints_positive, first_are, lesson_assigned}

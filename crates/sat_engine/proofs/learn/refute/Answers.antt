@@ -2,7 +2,7 @@ use Rattle.std.proofs.Common.{◌≡◌, ◌+◌, ◌++◌, ◌∷◌, [], lengt
 use Rattle.proof_check.specs.Lines.{Add, last_id, ArePositive}
 use Rattle.proof_check.specs.Following.{first_live}
 use Rattle.sat_engine.proofs.SearchLemmas.{refute_line}
-use Rattle.sat_engine.proofs.GlueLemmas.{within_at}
+use Rattle.sat_engine.proofs.KeepLemmas.{within_at}
 use Rattle.sat_engine.proofs.StepLemmas.{refuting_short, hints_positive, first_are}
 use Rattle.sat_engine.proofs.learn.refute.Goals as goal
 

@@ -7,7 +7,7 @@ use Rattle.clause_arena.specs.Arenas.{clause_at}
 use Rattle.watch_lists.proofs.KeepLemmas.{fit_push}
 use Rattle.sat_engine.specs.Copies.{IsCopy, IsLoaded}
 use Rattle.sat_engine.specs.Searches.{IsAttached}
-use Rattle.sat_engine.proofs.GlueLemmas.{clause_push_here, known_at}
+use Rattle.sat_engine.proofs.KeepLemmas.{clause_push_here, known_at}
 use Rattle.sat_engine.proofs.CopyLemmas.{loaded_none, loaded_more, fit_none, within_all, same_at}
 use Rattle.sat_engine.proofs.load.load.Goals as goal
 

@@ -7,7 +7,7 @@ use Rattle.sat_engine.proofs.FullLemmas.{stays_below, spends}
 use Rattle.sat_engine.proofs.LogLemmas.{numbers_push, last_push}
 use Rattle.clause_arena.specs.Arenas.{literals}
 use Rattle.sat_engine.specs.Searches.{IsLogged}
-use Rattle.sat_engine.proofs.GlueLemmas.{keep_cut, listed_cut}
+use Rattle.sat_engine.proofs.KeepLemmas.{keep_cut, listed_cut}
 use Rattle.sat_engine.proofs.SetLemmas.{sets_of, logged_sets, literals_same}
 use Rattle.sat_engine.proofs.LearntLemmas.{sized_same}
 use Rattle.watch_lists.proofs.KeepLemmas.{fit_cut}

@@ -2,7 +2,7 @@ use Rattle.std.proofs.Common.{◌+◌, [], ◌∷◌, ap, ◌∙◌, None}
 use Rattle.sat_trail.specs.Trails.{Entry, TrailState}
 use Rattle.watch_lists.proofs.SwapLemmas.{sets_trans}
 use Rattle.watch_lists.proofs.KeepLemmas.{fit_more}
-use Rattle.sat_engine.proofs.GlueLemmas.{keep_grown, keep_decided, all_quiet, listed_more}
+use Rattle.sat_engine.proofs.KeepLemmas.{keep_grown, keep_decided, all_quiet, listed_more}
 use Rattle.sat_engine.proofs.SetLemmas.{sets_of, keep_sets, listed_sets}
 use Rattle.sat_engine.proofs.search.to_conflict.Goals as goal
 

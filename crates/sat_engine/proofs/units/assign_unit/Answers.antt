@@ -1,8 +1,8 @@
 use Rattle.std.proofs.Common.{◌≡◌, length, ap, subst, arith}
 use Rattle.clause_arena.specs.Clauses.{In}
 use Rattle.clause_arena.specs.Arenas.{clause_at}
-use Rattle.sat_engine.proofs.ScanLemmas.{in_read}
-use Rattle.sat_engine.proofs.GlueLemmas.{known_at}
+use Rattle.sat_engine.proofs.PlaceLemmas.{in_read}
+use Rattle.sat_engine.proofs.KeepLemmas.{known_at}
 use Rattle.sat_engine.proofs.UnitLemmas.{unit_false, ground_true, keep_unit, fit_unit, unit_more, unit_true}
 use Rattle.sat_engine.proofs.units.assign_unit.Goals as goal
 

@@ -16,7 +16,7 @@ use Rattle.watch_lists.specs.Watching.{Watching, listed, IsGrown, HasWatchedReas
 use Rattle.sat_engine.specs.Lessons.{IsTrueLit, IsLesson}
 use Rattle.sat_engine.specs.Searches.{AreQuietBelow, AreExplained, IsAttached, IsSearching, AreListed, IsJump, IsWatchedOrTrue}
 use Rattle.sat_engine.proofs.LessonLemmas.{at_one, consistent}
-use Rattle.sat_engine.proofs.ScanLemmas.{same_lit, place_true, true_place, quiet_true}
+use Rattle.sat_engine.proofs.PlaceLemmas.{same_lit, place_true, true_place, quiet_true}
 use Rattle.sat_engine.proofs.WalkLemmas.{get_is, lesson_within}
 use Rattle.sat_engine.proofs.JumpLemmas.{first_part, last_part, more_true, less_true, quiet_cut, quiet_grow, quiet_push, quiet_open, explained_cut, explained_more, get_push}
 

@@ -1,9 +1,8 @@
--- One scan.
-use Rattle.std.proofs.Common.{◌≡◌, ◌≢◌, ◌⊎◌, ℕ, zero, suc, ◌<◌, ◌≤◌, Bool, true, false, not, List, [], ◌∷◌, ◌++◌, length, slice_index_or, refl, sym, ap, ◌∙◌, subst, inl, inr, arith}
+-- Where a literal stands in a clause or on a trail.
+use Rattle.std.proofs.Common.{◌≡◌, ◌≢◌, ◌⊎◌, ℕ, zero, suc, ◌<◌, ◌≤◌, Bool, true, false, List, [], ◌∷◌, ◌++◌, length, slice_index_or, refl, sym, ap, ◌∙◌, subst, inl, inr, arith}
 use Rattle.sat_trail.proofs.LitLemmas.{lit_same}
 use Rattle.sat_trail.specs.Propagation.{IsQuiet}
 use Rattle.std.specs.List.{All}
-use Rattle.std.proofs.Math.Bool.{beq}
 use Rattle.std.proofs.lemmas.Bool.{cases_eq}
 use Rattle.clause_arena.specs.Clauses.{Lit, opposite, Clause, In}
 use Rattle.sat_trail.specs.Trails.{Entry, TrailState, entry_at, true_lits, IsTrail}
@@ -48,18 +47,6 @@ pub all_in : (c : Clause) (n : ℕ) (l : Lit) → All (λ m. m.var ≤ n) c → 
 all_in [] n l a i = absurd i
 all_in (y ∷ c) n l a (inl same) = let h : y.var ≤ n = a 0 y (omega arith) in rw same h
 all_in (y ∷ c) n l a (inr i) = all_in c n l (λ k d h. a (suc k) d (omega (arith, h))) i
-
-pub beq_no : (a b : Bool) → not (beq a b) ≡ true → a ≡ b → ⊥
-beq_no true true t e = let no : false ≡ true = t in cc
-beq_no true false t e = cc
-beq_no false true t e = cc
-beq_no false false t e = let no : false ≡ true = t in cc
-
-pub beq_yes : (a b : Bool) → not (beq a b) ≡ false → a ≡ b
-beq_yes true true t = refl
-beq_yes true false t = let no : true ≡ false = t in cc
-beq_yes false true t = let no : true ≡ false = t in cc
-beq_yes false false t = refl
 
 pub place_true : (entries : List Entry) (q : ℕ) (l : Lit) → q < length entries → (entry_at entries q).lit ≡ l → In l (true_lits entries)
 place_true [] q l h e = absurd (omega (arith, h))
