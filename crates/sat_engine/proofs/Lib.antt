@@ -1,0 +1,17 @@
+pub mod LearnLemmas
+pub mod LogLemmas
+pub mod BoundLemmas
+pub mod LessonLemmas
+pub mod PlaceLemmas
+pub mod MarkLemmas
+pub mod WalkLemmas
+pub mod JumpLemmas
+pub mod SearchLemmas
+pub mod KeepLemmas
+pub mod StepLemmas
+pub mod FullLemmas
+pub mod CopyLemmas
+pub mod ArrangeLemmas
+pub mod SetLemmas
+pub mod UnitLemmas
+pub mod LearntLemmas

@@ -1,0 +1,3 @@
+pub mod LitLemmas
+pub mod TrailLemmas
+pub mod CutLemmas
