@@ -54,6 +54,6 @@ returns-clause-encodes c = λ patterns kept.
 
 pub returns-clause-few_gates : goal.returns-clause-few_gates
 returns-clause-few_gates c = λ few_ops.
-    let few = joining_lem c.args.orders.now c.in_ok-columns.columns c.in_ok-list.list c.requires.alike few_ops c.in_ok-columns.ensures.columns c.in_ok-list.ensures.classes c.requires.few in
+    let few = joining_lem c.args.orders.now c.in_ok-columns.columns c.in_ok-list.list c.requires.scenarios.alike few_ops c.in_ok-columns.ensures.columns c.in_ok-list.ensures.classes c.requires.scenarios.few in
     let made = few_by_smaller _ _ _ _ c.in_ok-codes.ensures.first c.in_ok-codes.ensures.few_gates in
     search rules
