@@ -5,7 +5,7 @@ use Rattle.cpog_defs.specs.declared.types.Ref.{Ref}
 use Rattle.cpog_defs.specs.declared.types.Ref.TheVariants.{Const, Signal}
 use Rattle.cpog_defs.specs.Orders.{Set}
 use Rattle.cpog_defs.specs.Gates.{GateList, IsRefOver, signal_count}
-use Rattle.cpog_defs.specs.Graphs.{arc_ref}
+use Rattle.cpog_defs.specs.Graphs.{ConditionalGraph, arc_ref}
 use Rattle.cpog_defs.specs.Encodings.{Encoding}
 
 -- gates, a condition for each operation, a row of arc wires for each, each with its condition where it is declared, and the set that each waits for
@@ -45,6 +45,14 @@ abbrev pub unless_zero : Ref → Option Ref
 unless_zero (Const false) = None
 unless_zero (Const true) = Some (Const true)
 unless_zero (Signal number negated) = Some (Signal number negated)
+
+-- the arc wires that lead from u are those of a graph's conditions
+abbrev pub HasWiresFrom : ConditionalGraph → Netlist → ℕ → Type 0
+HasWiresFrom graph n u = (v : ℕ) → wire_of n u v ≡ unless_zero (arc_ref graph u v)
+
+-- v waits for each operation from which an arc wire leads to it
+abbrev pub WaitsForWires : Netlist → ℕ → Type 0
+WaitsForWires n v = (u : ℕ) → IsSome (wire_of n u v) → IsTrue (set.contains (waits_of n v) u)
 
 -- the netlist of an encoding: an arc wire for each pair whose condition isn't the constant 0, and each operation waits for exactly these
 pub record IsNetlistOf (e : Encoding) (n : Netlist) : Type 0 where

@@ -4,6 +4,7 @@
 //! the operations that are ready, and tells when all are done and when it is idle.
 #![tactic(auto)]
 
+mod comparing;
 mod encoded;
 mod laws;
 mod machine;
@@ -14,6 +15,7 @@ mod steps;
 mod tests;
 mod wires;
 
+pub use comparing::is_netlist_of;
 pub use encoded::equations;
 pub use laws::{netlist_agrees_over_runs, runs_keep, steps_are_unique};
 pub use machine::{Event, Machine};

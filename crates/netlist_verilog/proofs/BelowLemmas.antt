@@ -33,7 +33,7 @@ some_push [] x e = cc
 some_push (y ∷ ys) x e = cc
 
 -- what holds below n and of n holds below n + 1
-below_suc : (P : ℕ → Type 0) (n : ℕ) → ((k : ℕ) → k < n → P k) → P n → (k : ℕ) → k < suc n → P k
+pub below_suc : (P : ℕ → Type 0) (n : ℕ) → ((k : ℕ) → k < n → P k) → P n → (k : ℕ) → k < suc n → P k
 below_suc P n h last k lt = elim (cases_lt k n) [ inl l ↦ h k l | inr g ↦ (let e : n ≡ k = omega arith in subst P e last) ]
 
 -- there are as many numbers, and each has its element

@@ -13,7 +13,7 @@ use Rattle.netlist_verilog.specs.Formulas.{Equation, equation_row}
 use Rattle.netlist_verilog.specs.Equations.{ref_formula, arc_equation, arc_equations_from}
 use Rattle.netlist_verilog.proofs.ValueLemmas.{part_below, parts_below, arc_part}
 use Rattle.netlist_verilog.proofs.BelowLemmas.{carried}
-use Rattle.netlist_verilog.proofs.WordLemmas.{ref_text, ref_told, digits_told}
+use Rattle.netlist_verilog.proofs.WordLemmas.{ref_text, ref_told, decimal_told}
 
 -- the equation of a reference
 abbrev pub ref_equation : Wire → Ref → Equation
@@ -35,7 +35,7 @@ arc_told : (inputs : ℕ) (names : List (List ℕ)) (signals u v u' v' : ℕ) (r
 arc_told inputs names signals u v u' v' r s fit hu hv hu' hv' hr hs e =
     let right : Ref → List ℕ = λ t. codes " = " ++ (ref_text inputs names t ++ codes ";") in
     let text = tails 101 101 _ _ (append_cancel_left (codes "  assign ") _ _ e) in
-    let first = digits_told u u' 95 (decimal v ++ right r) (decimal v' ++ right s) hu hu' refl (sym (append_assoc (decimal u) (codes "_" ++ decimal v) (right r)) ∙ text ∙ append_assoc (decimal u') (codes "_" ++ decimal v') (right s)) in
+    let first = decimal_told u u' 95 (decimal v ++ right r) (decimal v' ++ right s) hu hu' refl (sym (append_assoc (decimal u) (codes "_" ++ decimal v) (right r)) ∙ text ∙ append_assoc (decimal u') (codes "_" ++ decimal v') (right s)) in
     let second = number_told v v' 32 _ _ hv hv' refl first.1 in
     let third = ref_told inputs names signals r s 59 [] [] fit hr hs refl (tails 32 32 _ _ (tails 61 61 _ _ second.1)) in
     record { first = first.0; second = second.0; condition = third.0 }

@@ -30,7 +30,8 @@ name_passes (n ∷ ns) (suc v) h = name_passes ns v h.1
 
 -- ---- wires and equations
 
-signal_free : (inputs n : ℕ) → n < 2 ^ 64 → NoFeed (signal_text inputs n)
+-- a signal holds none
+pub signal_free : (inputs n : ℕ) → n < 2 ^ 64 → NoFeed (signal_text inputs n)
 signal_free inputs n lt = chosen (nat_lt n inputs)
   where
     chosen : (b : Bool) → NoFeed (cond b (codes "x" ++ decimal n) (codes "g" ++ decimal (n - inputs)))

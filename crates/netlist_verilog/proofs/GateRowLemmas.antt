@@ -10,6 +10,7 @@ use Rattle.cpog_defs.specs.declared.types.Ref.TheVariants as references
 use Rattle.cpog_defs.specs.declared.types.Ref.TheVariants.{Const}
 use Rattle.cpog_defs.specs.Codes.{bit}
 use Rattle.cpog_defs.specs.Gates.{IsRefOver}
+use Rattle.gate_core.proofs.GateLemmas.{gate_by_parts}
 use Rattle.line_text.proofs.TellingLemmas.{apart, heads, tails}
 use Rattle.netlist_verilog.specs.Wires.{Signal, signal_text, wire_text}
 use Rattle.netlist_verilog.specs.Formulas.{Formula, formula_text, comment_text, equation_row}
@@ -134,7 +135,7 @@ shaped inputs names signals b0 b1 b2 b3 j k lower earlier = row b0 b1 b2 b3
 
 -- ---- a gate
 
-same_bit : (x y : ℕ) → x < 2 → y < 2 → eqb x 1 ≡ eqb y 1 → x ≡ y
+pub same_bit : (x y : ℕ) → x < 2 → y < 2 → eqb x 1 ≡ eqb y 1 → x ≡ y
 same_bit zero zero hx hy e = refl
 same_bit zero (suc zero) hx hy e = absurd cc
 same_bit zero (suc (suc y)) hx hy e = absurd (omega arith)
@@ -153,9 +154,6 @@ four P p0 p1 p2 p3 (suc (suc (suc (suc i)))) lt = absurd (omega arith)
 table_is : (t u : ℕ) → t < 16 → u < 16 → bit t 0 ≡ bit u 0 → bit t 1 ≡ bit u 1 → bit t 2 ≡ bit u 2 → bit t 3 ≡ bit u 3 → t ≡ u
 table_is t u ht hu e0 e1 e2 e3 = same_from_bits_below 4 t u ht hu (λ i lt. same_bit _ _ (bit_at-lt t i) (bit_at-lt u i) (four (λ i. bit t i ≡ bit u i) e0 e1 e2 e3 i lt))
 
-same_gate : (g h : Gate) → g.j ≡ h.j → g.k ≡ h.k → g.table ≡ h.table → g ≡ h
-same_gate g h a b c = λ i. record { j = a i; k = b i; table = c i }
-
 pub record IsGateBelow (signals : ℕ) (g : Gate) : Type 0 where
   pub lower : g.j < g.k
   pub earlier : g.k < signals
@@ -169,5 +167,5 @@ gate_told inputs names signals i g h fit hg hh e =
     let text = append_cancel_left (codes " = ") _ _ (append_cancel_left (wire_text inputs names (Signal (inputs + i))) _ _ (append_cancel_left (codes "  assign ") _ _ e)) in
     let shape = shape_told inputs names signals sg.shape sh.shape fit sg.fits sh.fits (sym sg.text ∙ text ∙ sh.text) in
     let parts = sym sg.parts ∙ ap parts_of shape ∙ sh.parts in
-    same_gate g h (ap (λ (p : Parts). p.4) parts) (ap (λ (p : Parts). p.5) parts)
+    gate_by_parts g h (ap (λ (p : Parts). p.4) parts) (ap (λ (p : Parts). p.5) parts)
     (table_is g.table h.table hg.table hh.table (ap (λ (p : Parts). p.0) parts) (ap (λ (p : Parts). p.1) parts) (ap (λ (p : Parts). p.2) parts) (ap (λ (p : Parts). p.3) parts))

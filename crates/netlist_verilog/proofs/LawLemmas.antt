@@ -9,7 +9,7 @@ use Rattle.std.proofs.lemmas.List.{ext_get_or, get_or_past}
 use Rattle.cpog_defs.specs.declared.types.Ref.{Ref}
 use Rattle.cpog_defs.specs.declared.types.Ref.TheVariants.{Const}
 use Rattle.cpog_defs.specs.Gates.{GateList, IsRefOver, signal_count}
-use Rattle.gate_core.proofs.GateLemmas.{gate_reads}
+use Rattle.gate_core.proofs.GateLemmas.{gate_reads, gate_list_by_parts}
 use Rattle.handshake_eqs.specs.Netlists.{Netlist, condition_of, wire_of, waits_of, IsNetlist, IsWireOver}
 use Rattle.line_text.specs.Lines.{lines_of, text_of}
 use Rattle.line_text.proofs.SplittingLemmas.{lines_again}
@@ -42,16 +42,13 @@ gate_below m is g lt =
     let reads = gate_reads m.netlist.gates.inputs m.netlist.gates.gates g (record { j = 0; k = 0; table = 0 }) is.gates lt in
     record { lower = reads.0; earlier = omega (arith, reads.1, lt, is.few_inputs, is.few_gates); table = table_small m.netlist.gates.gates m.netlist.gates.inputs g (record { j = 0; k = 0; table = 0 }) is.gates lt }
 
-same_gate_lists : (g h : GateList) → g.inputs ≡ h.inputs → g.gates ≡ h.gates → g ≡ h
-same_gate_lists g h p q = λ i. record { inputs = p i; gates = q i }
-
 gates_told : (a b : ModuleValue) → IsModule a → IsModule b → SamePorts a b → SameRows a b → a.netlist.gates ≡ b.netlist.gates
 gates_told a b ia ib p rows =
     let ga = a.netlist.gates in
     let gb = b.netlist.gates in
     let ones = ones_told (λ g. row a (gate_equation ga.inputs g (gate_at ga g))) (λ g. row b (gate_equation gb.inputs g (gate_at gb g))) (length ga.gates) (length gb.gates)
     (sym (map_ones (row a) (λ g. gate_equation ga.inputs g (gate_at ga g)) (length ga.gates)) ∙ rows.gates ∙ map_ones (row b) (λ g. gate_equation gb.inputs g (gate_at gb g)) (length gb.gates)) in
-    same_gate_lists ga gb p.inputs (ext_get_or (record { j = 0; k = 0; table = 0 }) ga.gates gb.gates ones.0 (λ g lt.
+    gate_list_by_parts ga gb p.inputs (ext_get_or (record { j = 0; k = 0; table = 0 }) ga.gates gb.gates ones.0 (λ g lt.
     gate_told ga.inputs a.names (2 ^ 64) g (gate_at ga g) (gate_at gb g) (omega arith) (gate_below a ia g lt) (gate_below b ib g (omega (arith, lt, ones.0)))
     (ones.1 g lt ∙ ap₂ (λ inputs names. equation_row inputs names (gate_equation inputs g (gate_at gb g))) (sym p.inputs) (sym p.names))))
 

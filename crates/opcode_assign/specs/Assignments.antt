@@ -21,12 +21,14 @@ pub record CanBeAssigned (orders : List Order) (bits : ℕ) : Type 0 where
   pub few_bits : bits ≤ BIT_LIMIT
 
 -- the most gates of a first assignment over 64 operations: those that columns share, and those that join minterms. The
--- smaller sets of the classes of 64 scenarios have at most 64 * 1024 members, 32 each, and a set takes one join less than it
+-- smaller sets of the classes of 64 scenarios have at most 64 * 1024 members, 32 each, and a set takes one join less
+-- than it
 -- has members: 31 for 32, which is 2048 times 31 in all
 abbrev pub most_gates : ℕ
 most_gates = shared_gates + 2048 * 31
 
--- the gates and references of the first encoding of the classes on these codes, and for each operation and each pair the
+-- the gates and references of the first encoding of the classes on these codes, and for each operation and each pair
+-- the
 -- reference that its column takes by its class
 pub record IsAssignmentOn (codes : List ℕ) (count : ℕ) (orders : List Order) (bits : ℕ) (e : Encoding) : Type 0 where
   pub encoding : IsEncoding count e
@@ -40,6 +42,7 @@ pub record IsAssignmentOn (codes : List ℕ) (count : ℕ) (orders : List Order)
   pub conditions : IsGraphByClass count classes refs e.graph
 
 -- the least codes that keep the given bits, and the assignment on them
-pub record IsFirstAssignment (count : ℕ) (orders : List Order) (patterns : List (List Bit3)) (bits : ℕ) (e : Encoding) : Type 0 where
+pub record IsFirstAssignment (count : ℕ) (orders : List Order) (patterns : List (List Bit3)) (bits : ℕ)
+    (e : Encoding) : Type 0 where
   pub codes : AreLeast patterns (2 ^ bits) e.codes
   pub assigned : IsAssignmentOn e.codes count orders bits e

@@ -1,8 +1,9 @@
 -- The normal forms that a file asks for, and the parameters that its statements bind.
-use Rattle.std.specs.Prelude.{◌≡◌, ℕ, ◌+◌, ◌<◌, ◌==◌, Bool, false, ◌&&◌, List, [], ◌∷◌, ◌++◌, map, Option, Some, None, if◌then◌else◌}
+use Rattle.std.specs.Prelude.{◌≡◌, ℕ, ◌+◌, ◌^◌, ◌<◌, ◌==◌, Bool, false, ◌&&◌, List, [], ◌∷◌, ◌++◌, map, Option, Some, None, if◌then◌else◌}
 use Rattle.std.specs.List.{list_any}
 use Rattle.std.specs.Str.{bytes_eq}
 use Rattle.cpog_base.specs.Names.{place_of}
+use Rattle.cpog_base.specs.declared.limits.TheConstants.{PARAM_LIMIT}
 use Rattle.cpog_defs.specs.Codes.{bit}
 use Rattle.pg_algebra.specs.Graphs.{empty}
 use Rattle.pg_algebra.specs.declared.expr.Expr.{Expr}
@@ -59,7 +60,7 @@ binds_one params bindings k = list_any (λ b. is_place k (place_of params b.0) &
 
 -- bit k of the masks says whether parameter k is bound, and to what
 pub record IsBinding (params : List (List ℕ)) (bindings : List (List ℕ × Bool)) (p : Partial) : Type 0 where
-  pub few : (p.fixed < 64) × (p.values < 64)
+  pub few : (p.fixed < 2 ^ PARAM_LIMIT) × (p.values < 2 ^ PARAM_LIMIT)
   pub fixed : (k : ℕ) → bit p.fixed k ≡ binds params bindings k
   pub values : (k : ℕ) → bit p.values k ≡ binds_one params bindings k
 

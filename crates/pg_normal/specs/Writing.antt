@@ -2,6 +2,7 @@
 use Rattle.std.specs.Prelude.{ℕ, ◌^◌, ◌-◌, ◌==◌, Bool, true, false, not, ◌&&◌, ◌||◌, if◌then◌else◌, List, [], ◌∷◌, ◌++◌, map, codes}
 use Rattle.std.specs.List.{flat_map}
 use Rattle.std.proofs.Common.{get_or}
+use Rattle.cpog_base.specs.declared.limits.TheConstants.{PARAM_LIMIT}
 use Rattle.cpog_defs.specs.Codes.{bit}
 use Rattle.cpog_defs.specs.Orders.{all_below, each_below}
 use Rattle.pg_algebra.specs.Tables.{flip}
@@ -18,11 +19,11 @@ depends table k = sometimes (λ n. differ (bit table n) (bit table (flip n k)))
 
 -- the parameters on which a table depends, in their order
 unfoldable pub needed : ℕ → List ℕ
-needed table = each_below (λ k. if depends table k then k ∷ [] else []) 6
+needed table = each_below (λ k. if depends table k then k ∷ [] else []) PARAM_LIMIT
 
 -- whether a valuation sets no other parameter than those
 unfoldable pub sets_needed : ℕ → ℕ → Bool
-sets_needed table n = all_below (λ k. not (bit n k) || depends table k) 6
+sets_needed table n = all_below (λ k. not (bit n k) || depends table k) PARAM_LIMIT
 
 -- the valuations of those parameters under which the table is 1, each with the others left at 0: their numbers have the
 -- order of the numbers in which the first of those parameters has weight 1, the second weight 2 and so on

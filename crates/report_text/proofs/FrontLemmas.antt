@@ -22,8 +22,7 @@ use Rattle.netlist_verilog.specs.Module.{AreNames}
 use Rattle.report_text.specs.Report.{ReportValue, IsReport, IsBound}
 use Rattle.netlist_verilog.specs.Wires.{signal_text, name_of}
 use Rattle.report_text.specs.Rows.{digit, digits_of, ref_text, blank_names, scenario_lines, arc_text, gates_row, gate_row, gate_lines, op_row, op_lines, arc_row, arc_lines_from, arc_lines, line_unless_zero, head_lines, end_lines}
-use Rattle.netlist_verilog.proofs.FeedLemmas.{names_pass, name_passes}
-use Rattle.netlist_verilog.proofs.WordLemmas.{signal_passes}
+use Rattle.netlist_verilog.proofs.FeedLemmas.{names_pass, name_passes, signal_free}
 use Rattle.report_text.proofs.RowLemmas.{AllBy-below, ref_over}
 
 -- a line that isn't `netlist` and holds no line feed
@@ -60,9 +59,6 @@ digits_free bits word = each (word_bits word bits)
     each : (bs : List Bool) → NoFeed (map digit bs)
     each [] = tt
     each (b ∷ bs) = (digit_free b, each bs)
-
-signal_free : (inputs n : ℕ) → n < 2 ^ 64 → NoFeed (signal_text inputs n)
-signal_free inputs n lt = passes_free (signal_text inputs n) (signal_passes inputs n lt)
 
 ref_free : (inputs signals : ℕ) (r : Ref) → signals ≤ 2 ^ 64 → IsRefOver signals r → NoFeed (ref_text inputs r)
 ref_free inputs signals (Const false) fit h = clean_free (codes "0") refl

@@ -12,6 +12,7 @@ use Rattle.cpog_defs.specs.Gates.{GateList, AreGatesFrom, signal_count}
 use Rattle.cpog_defs.specs.Graphs.{ConditionalGraph, IsGraph, op_ref}
 use Rattle.cpog_defs.specs.Encodings.{Encoding}
 use Rattle.cpog_defs.specs.Scenarios.{Scenario}
+use Rattle.gate_core.proofs.GateLemmas.{gate_list_by_parts}
 use Rattle.handshake_eqs.specs.Netlists.{IsNetlistOf}
 use Rattle.line_text.specs.Lines.{text_of}
 use Rattle.line_text.specs.Words.{continues_name}
@@ -108,9 +109,6 @@ after_scenarios r =
     gates_row (length r.encoding.gates.gates)
     ∷ (gate_lines r.bits r.encoding.gates.gates ++ (op_lines r.bits r.names r.encoding.graph ++ (arc_lines r.bits r.names r.encoding.graph ++ (end_lines r.bound ++ netlist_lines (module_of r)))))
 
-same_gate_lists : (g h : GateList) → g.inputs ≡ h.inputs → g.gates ≡ h.gates → g ≡ h
-same_gate_lists g h p q = λ i. record { inputs = p i; gates = q i }
-
 same_encodings : (e f : Encoding) → e.codes ≡ f.codes → e.gates ≡ f.gates → e.graph ≡ f.graph → e ≡ f
 same_encodings e f p q r = λ i. record { codes = p i; gates = q i; graph = r i }
 
@@ -167,7 +165,7 @@ end_told a b ia ib head e =
     (append_cancel_left (codes "gates ") _ _ (lines_differ (gates_row (length ga.gates)) (gates_row (length gb.gates)) (gate_lines a.bits ga.gates ++ after a) (gate_lines b.bits gb.gates ++ after b) [] [] e)) in
     let inputs : ga.inputs ≡ gb.inputs = ia.inputs ∙ head.bits ∙ sym ib.inputs in
     let gates = gates_told a.bits b.bits ga gb (after a) (after b) head.bits count.0 ia.encoding.gates ib.encoding.gates (omega (arith, ia.inputs, ia.few_bits, ia.few_gates)) (omega (arith, ib.inputs, ib.few_bits, ib.few_gates)) count.1 in
-    let same : ga ≡ gb = same_gate_lists ga gb inputs gates.0 in
+    let same : ga ≡ gb = gate_list_by_parts ga gb inputs gates.0 in
     let signals : signal_count gb ≡ signal_count ga = ap signal_count (sym same) in
     let hb : IsGraph (length a.names) (signal_count ga) b.encoding.graph =
     subst (λ (n : ℕ). IsGraph n (signal_count ga) b.encoding.graph) (ap length (sym head.names)) (subst (λ (n : ℕ). IsGraph (length b.names) n b.encoding.graph) signals ib.encoding.graph) in

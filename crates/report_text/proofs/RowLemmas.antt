@@ -13,6 +13,7 @@ use Rattle.cpog_defs.specs.declared.types.Place.TheVariants.{Arc}
 use Rattle.cpog_defs.specs.Orders.{each_below}
 use Rattle.cpog_defs.specs.Gates.{IsRefOver}
 use Rattle.cpog_defs.specs.Graphs.{ConditionalGraph, IsGraph, op_ref, arc_ref}
+use Rattle.gate_core.proofs.GateLemmas.{gate_by_parts}
 use Rattle.line_text.specs.Lines.{text_of}
 use Rattle.line_text.specs.Words.{continues_name}
 use Rattle.line_text.proofs.TellingLemmas.{AllPass, word_told, heads, tails, number_told, until_told}
@@ -38,9 +39,6 @@ lines_differ row row' ls ls' x y e = sym (line_first row ls x) ∙ e ∙ line_fi
 signal_step : (inputs m n : ℕ) (p q x y : List ℕ) → m < 2 ^ 64 → n < 2 ^ 64 → (signal_text inputs m ++ (32 ∷ p)) ++ x ≡ (signal_text inputs n ++ (32 ∷ q)) ++ y → (m ≡ n) × (p ++ x ≡ q ++ y)
 signal_step inputs m n p q x y hm hn e = signal_told inputs m n 32 (p ++ x) (q ++ y) hm hn refl (sym (append_assoc (signal_text inputs m) (32 ∷ p) x) ∙ e ∙ append_assoc (signal_text inputs n) (32 ∷ q) y)
 
-same_gate : (g h : Gate) → g.j ≡ h.j → g.k ≡ h.k → g.table ≡ h.table → g ≡ h
-same_gate g h a b c = λ i. record { j = a i; k = b i; table = c i }
-
 pub gate_told : (inputs i : ℕ) (g h : Gate) (x y : List ℕ) → i < 2 ^ 64 → g.j < 2 ^ 64 → g.k < 2 ^ 64 → g.table < 16 → h.j < 2 ^ 64 → h.k < 2 ^ 64 → h.table < 16
     → text_of (gate_row inputs i g ∷ []) ++ x ≡ text_of (gate_row inputs i h ∷ []) ++ y → (g ≡ h) × (x ≡ y)
 gate_told inputs i g h x y hi gj gk gt hj hk ht e =
@@ -50,7 +48,7 @@ gate_told inputs i g h x y hi gj gk gt hj hk ht e =
     let c = signal_step inputs g.j h.j (signal_text inputs g.k ++ (32 ∷ digits_of 4 g.table)) (signal_text inputs h.k ++ (32 ∷ digits_of 4 h.table)) (10 ∷ x) (10 ∷ y) gj hj b.1 in
     let d = signal_step inputs g.k h.k (digits_of 4 g.table) (digits_of 4 h.table) (10 ∷ x) (10 ∷ y) gk hk c.1 in
     let t = digits_told 4 g.table h.table x y gt ht d.1 in
-    (same_gate g h c.0 d.0 t.0, t.1)
+    (gate_by_parts g h c.0 d.0 t.0, t.1)
 
 -- ---- the conditions of operations
 

@@ -11,7 +11,7 @@ use Rattle.pg_algebra.specs.Graphs.{overlay, sequence, when, overlay_all, sequen
 use Rattle.pg_algebra.specs.Conditions.{valuation, value, params_of}
 use Rattle.pg_algebra.proofs.TreeLaws.{graph_of-When, graph_of-Overlay, graph_of-Sequence}
 use Rattle.pg_algebra.specs.declared.expr.Expr.TheViews.{sized-When, sized-Overlay, sized-Sequence, size_is-ExprList}
-use Rattle.pg_normal.specs.Known.{IsKnown, IsSquare, entry, graph_of_rows, graph_or_empty, graph_stated, graphs_known, tables_at}
+use Rattle.pg_normal.specs.Known.{IsKnown, HasFullRows, entry, graph_of_rows, graph_or_empty, graph_stated, graphs_known, tables_at}
 use Rattle.pg_normal.specs.Sound.{is_sound}
 use Rattle.pg_normal.proofs.RowLemmas.{zero_row, bit-none}
 use Rattle.pg_normal.proofs.MemberLemmas.{under_parts, sound-Overlay, sound-Sequence}
@@ -109,7 +109,7 @@ add_sequence-line-preserved t c = record {
   rows = record {
     over = subst (λ k. IsKnown k c.args.known.now) (sym arcs) c.in_ok-add.ensures.rows.over;
     width = c.take_up.ensures.len ∙ c.line.invariant.rows.width ∙ sym (arcs ∙ c.add.auto.arcs);
-    square = subst (λ k. IsSquare k c.join_once.new.arcs) (sym arcs) c.join_once.ensures.square;
+    square = subst (λ k. HasFullRows k c.join_once.new.arcs) (sym arcs) c.join_once.ensures.square;
     there = united_grows c.args.known.now c.add.new.united c.add.new.arcs c.join_once.new.arcs (λ u v n h held. both_held _ _ _ (c.join_once.ensures.each u v n h) held) c.in_ok-add.ensures.rows.there;
   };
   joined = c.take_up.ensures.joined c.join_once.new.arcs c.join_once.ensures.joined;

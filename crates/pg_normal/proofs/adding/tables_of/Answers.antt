@@ -2,7 +2,7 @@ use Rattle.std.proofs.Common.{◌≡◌, sym, ◌∙◌, ap, subst, length}
 use Rattle.cpog_defs.specs.Codes.{bit}
 use Rattle.pg_algebra.specs.Conditions.{valuation}
 use Rattle.pg_algebra.specs.Meaning.{graph_of}
-use Rattle.pg_normal.specs.Known.{IsSquare, entry, graph_of_rows, graphs_known, orders_known}
+use Rattle.pg_normal.specs.Known.{HasFullRows, entry, graph_of_rows, graphs_known, orders_known}
 use Rattle.pg_normal.specs.Appearing.{appearing, with_numbers}
 use Rattle.pg_normal.proofs.RowLemmas.{zero_row, written_back}
 use Rattle.pg_normal.proofs.StepLemmas.{nothing_before}
@@ -21,8 +21,8 @@ returns-clause-graph c n h =
 pub returns-clause-over : goal.returns-clause-over
 returns-clause-over c = tables_are_over c.args.count c.args.known.now c.args.expr.now (record { order = c.note.new.order; vertices = c.add.new.vertices; arcs = c.from_vec.result }) c.requires.known.over
     (c.in_ok-add.ensures.rows.width ∙ c.add.auto.arcs ∙ rows)
-    (subst (λ a. IsSquare c.args.count a) (sym (c.from_vec.ensures ∙ written_back c.add.new.arcs c.in_ok-arcs.arcs.items c.in_ok-arcs.arcs.len (c.add.auto.arcs ∙ ap length c.deref_mut.ensures.value) c.in_ok-arcs.arcs.ok.0))
-    (subst (λ k. IsSquare k c.add.new.arcs) (c.add.auto.arcs ∙ rows) c.in_ok-add.ensures.rows.square))
+    (subst (λ a. HasFullRows c.args.count a) (sym (c.from_vec.ensures ∙ written_back c.add.new.arcs c.in_ok-arcs.arcs.items c.in_ok-arcs.arcs.len (c.add.auto.arcs ∙ ap length c.deref_mut.ensures.value) c.in_ok-arcs.arcs.ok.0))
+    (subst (λ k. HasFullRows k c.add.new.arcs) (c.add.auto.arcs ∙ rows) c.in_ok-add.ensures.rows.square))
     (returns-clause-graph c)
     (c.in_ok-note.ensures ∙ ap (λ vs. with_numbers vs (appearing (orders_known c.args.known.now) c.args.expr.now)) c.new-order.ensures)
   where
