@@ -32,10 +32,11 @@ pub record IsHallViolator (may_have : ℕ → ℕ → Type 0) (top n hole : ℕ)
 
 -- ---- the search
 
--- the list that a scenario has, and whether it is marked
+-- the list that a scenario has
 abbrev pub list_at : List (List ℕ) → ℕ → List ℕ
 list_at lists i = slice_index_or lists i []
 
+-- whether a scenario is marked
 abbrev pub is_in : List Bool → ℕ → Bool
 is_in marks i = slice_index_or marks i false
 

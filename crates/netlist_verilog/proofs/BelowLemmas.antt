@@ -10,7 +10,8 @@ pub cons_parts : {X : Type 0} (x y : X) (xs ys : List X) → (x ∷ xs) ≡ (y �
 cons_parts x y xs ys e = (cc, cc)
 
 -- a first part of elements that pass, before elements that don't
-pub parted : {X : Type 0} (p : X → Bool) (xs ys zs ws : List X) → AllByRecursion (λ x. p x ≡ true) xs → AllByRecursion (λ x. p x ≡ true) ys → AllByRecursion (λ x. p x ≡ false) zs → AllByRecursion (λ x. p x ≡ false) ws
+pub parted : {X : Type 0} (p : X → Bool) (xs ys zs ws : List X) → AllByRecursion (λ x. p x ≡ true) xs →
+    AllByRecursion (λ x. p x ≡ true) ys → AllByRecursion (λ x. p x ≡ false) zs → AllByRecursion (λ x. p x ≡ false) ws
     → xs ++ zs ≡ ys ++ ws → (xs ≡ ys) × (zs ≡ ws)
 parted p [] [] zs ws hx hy hz hw e = (refl, e)
 parted p [] (y ∷ ys) [] ws hx hy hz hw e = absurd cc

@@ -40,7 +40,8 @@ same_alone r s p q m n a b c = λ i. Alone (a i) (b i) (c i)
 same_joined : (o p : ℕ) (r s t u : Ref) → o ≡ p → r ≡ t → s ≡ u → Joined o r s ≡ Joined p t u
 same_joined o p r s t u a b c = λ i. Joined (a i) (b i) (c i)
 
-shape_told : (inputs : ℕ) (names : List (List ℕ)) (signals : ℕ) (s t : Shape) → signals ≤ 2 ^ 64 → FitsShape signals s → FitsShape signals t → shape_text inputs names s ≡ shape_text inputs names t → s ≡ t
+shape_told : (inputs : ℕ) (names : List (List ℕ)) (signals : ℕ) (s t : Shape) → signals ≤ 2 ^ 64 →
+    FitsShape signals s → FitsShape signals t → shape_text inputs names s ≡ shape_text inputs names t → s ≡ t
 shape_told inputs names signals (Alone r p q) (Alone s m n) fit hs ht e =
     let first = ref_told inputs names signals r s 32 _ _ fit hs.0 ht.0 refl e in
     let second = signal_told inputs p m 32 _ _ (omega (arith, hs.1, fit)) (omega (arith, ht.1, fit)) refl (tails 32 32 _ _ (tails 42 42 _ _ (tails 47 47 _ _ first.1))) in
@@ -102,12 +103,17 @@ shaped : (inputs : ℕ) (names : List (List ℕ)) (signals : ℕ) (b0 b1 b2 b3 :
 shaped inputs names signals b0 b1 b2 b3 j k lower earlier = row b0 b1 b2 b3
   where
     one : {b0 b1 b2 b3 : Bool} (r : Ref) → IsRefOver signals r → parts_of (Alone r j k) ≡ (b0, b1, b2, b3, j, k)
-        → shown inputs names (gate_formula b0 b1 b2 b3 (Signal j) (Signal k)) j k ≡ ref_text inputs names r ++ (comment_text inputs names (Some (Signal j, Signal k)) ++ codes ";") → IsShaped inputs names signals b0 b1 b2 b3 j k
+        → shown inputs names (gate_formula b0 b1 b2 b3 (Signal j) (Signal k)) j k ≡ ref_text inputs names r ++
+            (comment_text inputs names (Some (Signal j, Signal k)) ++ codes ";") →
+            IsShaped inputs names signals b0 b1 b2 b3 j k
     one r over parts text =
         record { shape = Alone r j k; fits = (over, omega arith, earlier); text = text ∙ alone_text (ref_text inputs names r) (signal_text inputs j) (signal_text inputs k); parts = parts }
 
     two : {b0 b1 b2 b3 : Bool} (op : ℕ) (a b : Bool) → eqb op 47 ≡ false → two_parts op (references.Signal j a) (references.Signal k b) ≡ (b0, b1, b2, b3, j, k)
-        → shown inputs names (gate_formula b0 b1 b2 b3 (Signal j) (Signal k)) j k ≡ (ref_text inputs names (references.Signal j a) ++ (32 ∷ op ∷ 32 ∷ ref_text inputs names (references.Signal k b))) ++ codes ";" → IsShaped inputs names signals b0 b1 b2 b3 j k
+        → shown inputs names (gate_formula b0 b1 b2 b3 (Signal j) (Signal k)) j k ≡
+            (ref_text inputs names (references.Signal j a) ++
+            (32 ∷ op ∷ 32 ∷ ref_text inputs names (references.Signal k b))) ++ codes ";" →
+            IsShaped inputs names signals b0 b1 b2 b3 j k
     two op a b not_comment parts text = record {
       shape = Joined op (references.Signal j a) (references.Signal k b);
       fits = (not_comment, omega arith, earlier);

@@ -40,7 +40,10 @@ renamed a b p e = ap₂ (λ inputs names. equation_row inputs names e) (sym p.in
 gate_below : (m : ModuleValue) → IsModule m → (g : ℕ) → g < length m.netlist.gates.gates → IsGateBelow (2 ^ 64) (gate_at m.netlist.gates g)
 gate_below m is g lt =
     let reads = gate_reads m.netlist.gates.inputs m.netlist.gates.gates g (record { j = 0; k = 0; table = 0 }) is.gates lt in
-    record { lower = reads.0; earlier = omega (arith, reads.1, lt, is.few_inputs, is.few_gates); table = table_small m.netlist.gates.gates m.netlist.gates.inputs g (record { j = 0; k = 0; table = 0 }) is.gates lt }
+    record { lower = reads.0; earlier = omega
+        (arith, reads.1, lt, is.few_inputs, is.few_gates);
+        table = table_small m.netlist.gates.gates m.netlist.gates.inputs g
+        (record { j = 0; k = 0; table = 0 }) is.gates lt }
 
 gates_told : (a b : ModuleValue) → IsModule a → IsModule b → SamePorts a b → SameRows a b → a.netlist.gates ≡ b.netlist.gates
 gates_told a b ia ib p rows =
@@ -62,7 +65,8 @@ conditions_told a b ia ib p rows gates =
     let na : Netlist = a.netlist in
     let nb : Netlist = b.netlist in
     let ones = ones_told (λ v. row a (condition_equation v (condition_of na v))) (λ v. row b (condition_equation v (condition_of nb v))) (length na.conditions) (length nb.conditions)
-    (sym (map_ones (row a) (λ v. condition_equation v (condition_of na v)) (length na.conditions)) ∙ rows.conditions ∙ map_ones (row b) (λ v. condition_equation v (condition_of nb v)) (length nb.conditions)) in
+    (sym (map_ones (row a) (λ v. condition_equation v (condition_of na v)) (length na.conditions)) ∙ rows.conditions
+        ∙ map_ones (row b) (λ v. condition_equation v (condition_of nb v)) (length nb.conditions)) in
     ext_get_or (Const false) na.conditions nb.conditions ones.0 (λ v lt.
     condition_told na.gates.inputs a.names (signal_count na.gates) (Condition v) (condition_of na v) (condition_of nb v) (signals_fit a ia) (ia.netlist.conditions_over v)
     (subst (λ n. IsRefOver n (condition_of nb v)) (ap signal_count (sym gates)) (ib.netlist.conditions_over v)) (ones.1 v lt ∙ renamed a b p (condition_equation v (condition_of nb v))))
@@ -76,7 +80,9 @@ wires_told a b ia ib p rows gates =
     (rows.arcs ∙ ap₂ (λ inputs names. map (equation_row inputs names) (arc_part nb)) (sym p.inputs) (sym p.names)) in
     ext_get_or [] na.wires nb.wires (ia.netlist.wires ∙ p.count ∙ sym ib.netlist.wires) (λ u lt.
     let hu : u < length na.conditions = omega (arith, lt, ia.netlist.wires) in
-    ext_get_or None (get_or na.wires u []) (get_or nb.wires u []) (ia.netlist.rows u hu ∙ p.count ∙ sym (ib.netlist.rows u (omega (arith, hu, p.count)))) (λ v lt'. same u v hu (omega (arith, lt', ia.netlist.rows u hu))))
+    ext_get_or None (get_or na.wires u []) (get_or nb.wires u []) (ia.netlist.rows u hu ∙ p.count
+        ∙ sym (ib.netlist.rows u (omega (arith, hu, p.count))))
+        (λ v lt'. same u v hu (omega (arith, lt', ia.netlist.rows u hu))))
 
 -- ---- waits
 
@@ -106,7 +112,9 @@ waits_told a b ia ib p rows =
 
 -- ---- the whole module
 
-same_modules : (a b : ModuleValue) → a.names ≡ b.names → a.netlist.gates ≡ b.netlist.gates → a.netlist.conditions ≡ b.netlist.conditions → a.netlist.wires ≡ b.netlist.wires → a.netlist.waits ≡ b.netlist.waits → a ≡ b
+same_modules : (a b : ModuleValue) → a.names ≡ b.names → a.netlist.gates ≡ b.netlist.gates →
+    a.netlist.conditions ≡ b.netlist.conditions → a.netlist.wires ≡ b.netlist.wires →
+    a.netlist.waits ≡ b.netlist.waits → a ≡ b
 same_modules a b p q r s t = λ i. record { names = p i; netlist = record { gates = q i; conditions = r i; wires = s i; waits = t i } }
 
 -- two modules with the same text are one

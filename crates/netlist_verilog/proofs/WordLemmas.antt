@@ -110,7 +110,9 @@ ref_told inputs names signals (Signal m true) (Const true) c x y fit hr hs hc e 
 ref_told inputs names signals (Signal m false) (Signal n true) c x y fit hr hs hc e = absurd (not_signal inputs m 126 _ _ (λ h. omega (arith, h)) (λ h. omega (arith, h)) e)
 ref_told inputs names signals (Signal m true) (Signal n false) c x y fit hr hs hc e = absurd (not_signal inputs n 126 _ _ (λ h. omega (arith, h)) (λ h. omega (arith, h)) (sym e))
 ref_told inputs names signals (Signal m false) (Signal n false) c x y fit hr hs hc e = let t = signal_told inputs m n c x y (omega arith) (omega arith) hc e in (ap (λ k. Signal k false) t.0, t.1)
-ref_told inputs names signals (Signal m true) (Signal n true) c x y fit hr hs hc e = let t = signal_told inputs m n c x y (omega arith) (omega arith) hc (tails 126 126 _ _ e) in (ap (λ k. Signal k true) t.0, t.1)
+ref_told inputs names signals (Signal m true) (Signal n true) c x y fit hr hs hc e = let t =
+    signal_told inputs m n c x y (omega arith) (omega arith) hc (tails 126 126 _ _ e) in
+    (ap (λ k. Signal k true) t.0, t.1)
 
 -- ---- names
 

@@ -122,7 +122,9 @@ module _ (f : Contents) (all : List Normal) (k : ℕ) (y d : Normal) (within : k
         whole = whole ∙ sym (append_assoc at.done (here.0 ∷ []) here.1);
         forms = here.4;
         denotes = denoted_push (length f.operations) at.done scs here.0 sc at.denotes
-            (denoted (params_in f) here.3.before here.3.expr here.3.bindings here.0 y here.3.normal here.3.graph here.3.fixed here.3.values (length f.operations) sc (subst (λ n. IsInstance y.form y.binding.fixed y.binding.values n sc) count_is instance));
+            (denoted (params_in f) here.3.before here.3.expr here.3.bindings here.0 y here.3.normal here.3.graph
+                here.3.fixed here.3.values (length f.operations) sc
+                (subst (λ n. IsInstance y.form y.binding.fixed y.binding.values n sc) count_is instance));
       }
 
       -- or it is the first that leaves a parameter open

@@ -55,7 +55,8 @@ module _ (f : Contents) (x : Normal) (rest : List Normal) where
       record { before = before; here = record { line = n; statement = statement.Graph w e }; behind = left; statements = is; place = ap (λ o. o.statement) both.0; lines_are = refl; origins = both.1 }
   follows_from n (statement.Scenario w e bs) left later before is origins =
       let both = heads _ _ _ _ origins in
-      record { before = before; here = record { line = n; statement = statement.Scenario w e bs }; behind = left; statements = is; place = ap (λ o. o.statement) both.0; lines_are = refl; origins = both.1 }
+      record { before = before; here = record { line = n; statement = statement.Scenario w e bs }; behind =
+          left; statements = is; place = ap (λ o. o.statement) both.0; lines_are = refl; origins = both.1 }
 
   next_statement : (left : List Numbered) → Follows left
   next_statement [] before is origins = let e = ap length origins in absurd (omega (arith, e))
@@ -85,7 +86,9 @@ written_first f xs params out are same is = record {
       ∙ ap (λ t. t ++ text_of (normal_lines f.operations (params_in f) f.statements xs)) (ap (λ ps. text_of (params_lines ps)) (sym same) ∙ sym is);
 }
 
-no_lines_from : (names params : List (List ℕ)) (line : ℕ) (s : Statement) (ss : List Numbered) → normal_lines names params ss [] ≡ [] → normal_lines names params (record { line = line; statement = s } ∷ ss) [] ≡ []
+no_lines_from : (names params : List (List ℕ)) (line : ℕ) (s : Statement) (ss : List Numbered) →
+    normal_lines names params ss [] ≡ [] → normal_lines names params
+    (record { line = line; statement = s } ∷ ss) [] ≡ []
 no_lines_from names params line (statement.Params ws) ss none = none
 no_lines_from names params line (statement.Graph w e) ss none = refl
 no_lines_from names params line (statement.Scenario w e bs) ss none = refl
@@ -112,7 +115,9 @@ module _ (f : Contents) (all : List Normal) (k : ℕ) (x d : Normal) (out : List
   pub statement_within : x.origin.statement < length f.statements
   statement_within = slice_get_within f.statements x.origin.statement here.here stands
 
-  pub written_more : (s : Statement) (names params : List (List ℕ)) (form : Form) (new : List ℕ) → IsSomeAnd (slice_get f.statements x.origin.statement) (λ n. s ≡ n.statement) → names ≡ f.operations → params ≡ params_in f → form ≡ x.form
+  pub written_more : (s : Statement) (names params : List (List ℕ)) (form : Form) (new : List ℕ) →
+      IsSomeAnd (slice_get f.statements x.origin.statement) (λ n. s ≡ n.statement) → names ≡ f.operations →
+      params ≡ params_in f → form ≡ x.form
       → new ≡ out ++ text_of (form_lines names params s form) → Written f all (drop (k + 1) all) new
   written_more s names params form new at_s names_are params_are form_is put = record {
     before = here.before ++ here.here ∷ [];

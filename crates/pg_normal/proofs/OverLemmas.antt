@@ -52,10 +52,15 @@ tables_are_over count known e t all vertices square graph order = record {
   first = λ u v n h held. ap (λ g. g.vertex u) (graph n h) ∙ (end n h u v held).0;
   second = λ u v n h held. ap (λ g. g.vertex v) (graph n h) ∙ (end n h u v held).1;
   listed = λ v n h held. ap (λ vs. has vs v) order ∙ listed [] (appearing (orders_known known) e) v
-      (appears (graphs_known known n) (valuation known.params n) (orders_known known) (λ name w there. lists-option count n h (tables_named known name) (λ x is. known_is_over count known name x all is) w there) e v
+      (appears (graphs_known known n) (valuation known.params n) (orders_known known)
+          (λ name w there. lists-option count n h (tables_named known name)
+          (λ x is. known_is_over count known name x all is) w there) e v
       (sym (ap (λ g. g.vertex v) (graph n h)) ∙ held));
 }
   where
     end : (n : ℕ) → n < 64 → (u v : ℕ) → bit (entry t.arcs u v) n ≡ true
         → ((graph_of (graphs_known known n) (valuation known.params n) e).vertex u ≡ true) × ((graph_of (graphs_known known n) (valuation known.params n) e).vertex v ≡ true)
-    end n h u v held = ends (graphs_known known n) (valuation known.params n) (λ name. ends-option count n h (tables_named known name) (λ x is. known_is_over count known name x all is)) e u v (sym (ap (λ g. g.arc u v) (graph n h)) ∙ held)
+    end n h u v held =
+        ends (graphs_known known n) (valuation known.params n)
+        (λ name. ends-option count n h (tables_named known name)
+        (λ x is. known_is_over count known name x all is)) e u v (sym (ap (λ g. g.arc u v) (graph n h)) ∙ held)

@@ -19,8 +19,10 @@ entry arcs u v = slice_index (slice_index_or arcs v []) u
 
 -- the graph of these tables under valuation n
 abbrev pub graph_of_rows : List ℕ → List (List ℕ) → ℕ → Graph
-graph_of_rows vertices arcs n = record { vertex = λ v. bit (slice_index vertices v) n; arc = λ u v. bit (entry arcs u v) n }
+graph_of_rows vertices arcs n =
+    record { vertex = λ v. bit (slice_index vertices v) n; arc = λ u v. bit (entry arcs u v) n }
 
+-- the same of tables that are kept together
 abbrev pub graph_of_tables : Tables → ℕ → Graph
 graph_of_tables t n = graph_of_rows t.vertices t.arcs n
 
@@ -76,7 +78,8 @@ pub record IsKnown (count : ℕ) (known : Known) : Type 0 where
 
 -- under these valuations the arcs of the first are among those of the second
 abbrev pub AreThere : ℕ → List (List ℕ) → List (List ℕ) → Type 0
-AreThere among some arcs = (u v n : ℕ) → n < 64 → bit among n ≡ true → bit (entry some u v) n ≡ true → bit (entry arcs u v) n ≡ true
+AreThere among some arcs =
+    (u v n : ℕ) → n < 64 → bit among n ≡ true → bit (entry some u v) n ≡ true → bit (entry arcs u v) n ≡ true
 
 -- a table for each graph that is known: under its valuations the arcs of the graph are there
 pub record AreUnited (known : Known) (united : List ℕ) (arcs : List (List ℕ)) : Type 0 where
@@ -92,4 +95,6 @@ pub record AreRowsOver (known : Known) (vertices : List ℕ) (arcs : List (List 
 
 -- there is an arc from each vertex of the first row to each of the second, under the valuations of both
 abbrev pub AreJoined : List ℕ → List ℕ → List (List ℕ) → Type 0
-AreJoined before joined arcs = (u v n : ℕ) → n < 64 → bit (slice_index before u) n ≡ true → bit (slice_index joined v) n ≡ true → bit (entry arcs u v) n ≡ true
+AreJoined before joined arcs =
+    (u v n : ℕ) → n < 64 → bit (slice_index before u) n ≡ true → bit (slice_index joined v) n ≡ true →
+    bit (entry arcs u v) n ≡ true

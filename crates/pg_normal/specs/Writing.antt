@@ -9,6 +9,7 @@ use Rattle.pg_algebra.specs.Tables.{flip}
 use Rattle.pg_text.specs.Writing.{when_needed, row_text}
 use Rattle.pg_normal.specs.Forms.{Form, vertex_table, arc_table, sometimes}
 
+-- whether two bits differ
 abbrev pub differ : Bool → Bool → Bool
 differ true b = not b
 differ false b = b
@@ -44,7 +45,9 @@ valuations_text params ks ns = row_text (codes " | ") (map (valuation_text param
 
 -- the condition before a term, and nothing where the table is constant 1
 unfoldable pub prefix_text : List (List ℕ) → ℕ → List ℕ
-prefix_text params table = if table == 2 ^ 64 - 1 then [] else codes "[" ++ (valuations_text params (needed table) (chosen table) ++ codes "] ")
+prefix_text params table =
+    if table == 2 ^ 64 - 1 then []
+    else codes "[" ++ (valuations_text params (needed table) (chosen table) ++ codes "] ")
 
 -- an arc between two names
 abbrev pub arc_text : List ℕ → List ℕ → List ℕ
@@ -56,7 +59,9 @@ vertex_term f names params v = prefix_text params (vertex_table f v) ++ get_or n
 
 -- the arc of a pair, if the form has it
 abbrev pub arc_terms : Form → List (List ℕ) → List (List ℕ) → ℕ → ℕ → List (List ℕ)
-arc_terms f names params u v = if arc_table f u v == 0 then [] else (prefix_text params (arc_table f u v) ++ arc_text (get_or names u []) (get_or names v [])) ∷ []
+arc_terms f names params u v =
+    if arc_table f u v == 0 then []
+    else (prefix_text params (arc_table f u v) ++ arc_text (get_or names u []) (get_or names v [])) ∷ []
 
 -- the arcs from a vertex to these
 abbrev pub arc_terms_from : Form → List (List ℕ) → List (List ℕ) → List ℕ → ℕ → List (List ℕ)
@@ -66,6 +71,7 @@ arc_terms_from f names params vs u = flat_map (arc_terms f names params u) vs
 abbrev pub terms_over : Form → List (List ℕ) → List (List ℕ) → List ℕ → List (List ℕ)
 terms_over f names params vs = map (vertex_term f names params) vs ++ flat_map (arc_terms_from f names params vs) vs
 
+-- the vertices of a form, in their order
 abbrev pub vertices_of : Form → List ℕ
 vertices_of f = map (λ e. e.0) f.vertices
 

@@ -38,7 +38,9 @@ more_pieces g n (suc m) y lt = elim (cases_lt n m) [
 ]
 
 -- pieces that all begin with one byte, up to an end that begins with another: there are as many of them
-pub count_told : (f g : ℕ → List ℕ) (P : ℕ → Type 0) (b c : ℕ) (n m : ℕ) → (b ≡ c → ⊥) → ((k : ℕ) (x : List ℕ) → (r : List ℕ) × (f k ++ x ≡ b ∷ r)) → ((k : ℕ) (x : List ℕ) → (r : List ℕ) × (g k ++ x ≡ b ∷ r))
+pub count_told : (f g : ℕ → List ℕ) (P : ℕ → Type 0) (b c : ℕ) (n m : ℕ) → (b ≡ c → ⊥) →
+    ((k : ℕ) (x : List ℕ) → (r : List ℕ) × (f k ++ x ≡ b ∷ r)) →
+    ((k : ℕ) (x : List ℕ) → (r : List ℕ) × (g k ++ x ≡ b ∷ r))
     → ((k : ℕ) → k < n → k < m → (x y : List ℕ) → f k ++ x ≡ g k ++ y → P k × (x ≡ y)) → (x y : List ℕ) → each_below f n ++ (c ∷ x) ≡ each_below g m ++ (c ∷ y) → n ≡ m
 count_told f g P b c n m differ hf hg told x y e = elim (cases_lt n m) [
   | inl l ↦ (

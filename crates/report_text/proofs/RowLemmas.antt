@@ -37,7 +37,9 @@ lines_differ row row' ls ls' x y e = sym (line_first row ls x) ∙ e ∙ line_fi
 -- ---- gates
 
 signal_step : (inputs m n : ℕ) (p q x y : List ℕ) → m < 2 ^ 64 → n < 2 ^ 64 → (signal_text inputs m ++ (32 ∷ p)) ++ x ≡ (signal_text inputs n ++ (32 ∷ q)) ++ y → (m ≡ n) × (p ++ x ≡ q ++ y)
-signal_step inputs m n p q x y hm hn e = signal_told inputs m n 32 (p ++ x) (q ++ y) hm hn refl (sym (append_assoc (signal_text inputs m) (32 ∷ p) x) ∙ e ∙ append_assoc (signal_text inputs n) (32 ∷ q) y)
+signal_step inputs m n p q x y hm hn e =
+    signal_told inputs m n 32 (p ++ x) (q ++ y) hm hn refl (sym (append_assoc (signal_text inputs m) (32 ∷ p) x) ∙ e
+    ∙ append_assoc (signal_text inputs n) (32 ∷ q) y)
 
 pub gate_told : (inputs i : ℕ) (g h : Gate) (x y : List ℕ) → i < 2 ^ 64 → g.j < 2 ^ 64 → g.k < 2 ^ 64 → g.table < 16 → h.j < 2 ^ 64 → h.k < 2 ^ 64 → h.table < 16
     → text_of (gate_row inputs i g ∷ []) ++ x ≡ text_of (gate_row inputs i h ∷ []) ++ y → (g ≡ h) × (x ≡ y)
@@ -78,7 +80,9 @@ arc_entries graph n = each_below (entries_from graph n) n
 abbrev pub entry_text : ℕ → List (List ℕ) → Entry → List ℕ
 entry_text inputs names t = arc_row inputs (name_of names t.0) (name_of names t.1.0) t.1.1 ++ 10 ∷ []
 
-one_text : (inputs : ℕ) (names : List (List ℕ)) (u v : ℕ) (r : Ref) → text_of (line_unless_zero (arc_row inputs (name_of names u) (name_of names v) r) r) ≡ flat_map (entry_text inputs names) (entry u v r)
+one_text : (inputs : ℕ) (names : List (List ℕ)) (u v : ℕ) (r : Ref) →
+    text_of (line_unless_zero (arc_row inputs (name_of names u) (name_of names v) r) r) ≡ flat_map
+    (entry_text inputs names) (entry u v r)
 one_text inputs names u v (Const false) = refl
 one_text inputs names u v (Const true) = refl
 one_text inputs names u v (Signal n negated) = refl
@@ -119,7 +123,9 @@ ref_over n signals graph u v is hu hv = elim (cases_eq u v) [
 
 pub entries_fit : (n signals : ℕ) (graph : ConditionalGraph) → IsGraph n signals graph → AllByRecursion (FitsEntry n signals) (arc_entries graph n)
 entries_fit n signals graph is =
-    AllBy-below (FitsEntry n signals) (entries_from graph n) n (λ u hu. AllBy-below (FitsEntry n signals) (λ v. entry u v (arc_ref graph u v)) n (λ v hv. entry_fits n signals u v (arc_ref graph u v) hu hv (ref_over n signals graph u v is hu hv)))
+    AllBy-below (FitsEntry n signals) (entries_from graph n) n
+        (λ u hu. AllBy-below (FitsEntry n signals) (λ v. entry u v (arc_ref graph u v)) n
+        (λ v hv. entry_fits n signals u v (arc_ref graph u v) hu hv (ref_over n signals graph u v is hu hv)))
 
 same_entry : (a b : Entry) → a.0 ≡ b.0 → a.1.0 ≡ b.1.0 → a.1.1 ≡ b.1.1 → a ≡ b
 same_entry a b p q r = λ i. (p i, (q i, r i))

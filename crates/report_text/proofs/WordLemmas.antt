@@ -37,7 +37,9 @@ digits_are (a ∷ as') [] e = absurd cc
 digits_are (a ∷ as') (b ∷ bs) e = ap₂ (λ (z : Bool) (zs : List Bool). z ∷ zs) (digit_is a b (heads _ _ _ _ e)) (digits_are as' bs (tails _ _ _ _ e))
 
 word_is : (n v w : ℕ) → v < 2 ^ n → w < 2 ^ n → word_bits v n ≡ word_bits w n → v ≡ w
-word_is n v w hv hw e = same_from_bits_below n v w hv hw (λ i lt. same_bit _ _ (bit_at-lt v i) (bit_at-lt w i) (sym (get_or-word_bits v n i lt) ∙ ap (λ (bs : List Bool). get_or bs i false) e ∙ get_or-word_bits w n i lt))
+word_is n v w hv hw e =
+    same_from_bits_below n v w hv hw (λ i lt. same_bit _ _ (bit_at-lt v i) (bit_at-lt w i)
+    (sym (get_or-word_bits v n i lt) ∙ ap (λ (bs : List Bool). get_or bs i false) e ∙ get_or-word_bits w n i lt))
 
 -- the digits of a word, up to the line's end
 pub digits_told : (n v w : ℕ) (x y : List ℕ) → v < 2 ^ n → w < 2 ^ n → digits_of n v ++ 10 ∷ x ≡ digits_of n w ++ 10 ∷ y → (v ≡ w) × (x ≡ y)
@@ -48,7 +50,8 @@ digits_told n v w x y hv hw e =
 -- ---- signals and conditions
 
 -- a condition, up to the line's end
-pub ref_told : (inputs signals : ℕ) (r s : Ref) (x y : List ℕ) → signals ≤ 2 ^ 64 → IsRefOver signals r → IsRefOver signals s → ref_text inputs r ++ 10 ∷ x ≡ ref_text inputs s ++ 10 ∷ y → (r ≡ s) × (x ≡ y)
+pub ref_told : (inputs signals : ℕ) (r s : Ref) (x y : List ℕ) → signals ≤ 2 ^ 64 → IsRefOver signals r →
+    IsRefOver signals s → ref_text inputs r ++ 10 ∷ x ≡ ref_text inputs s ++ 10 ∷ y → (r ≡ s) × (x ≡ y)
 ref_told inputs signals (Const false) (Const false) x y fit hr hs e = (refl, tails _ _ _ _ (tails _ _ _ _ e))
 ref_told inputs signals (Const false) (Const true) x y fit hr hs e = absurd (omega (arith, heads 48 49 _ _ e))
 ref_told inputs signals (Const true) (Const false) x y fit hr hs e = absurd (omega (arith, heads 49 48 _ _ e))

@@ -36,7 +36,8 @@ pub record IsReported (count : ℕ) (sc : Scenario) : Type 0 where
   pub scenario : IsScenario sc
   pub ascending : AllPairs IsArcBefore sc.arcs
 
--- a minimum of 0 needs no evidence, and no other bound stands without its own; nothing is known only where there is a gate
+-- a minimum of 0 needs no evidence, and no other bound stands without its own; nothing is known only where there is a
+-- gate
 abbrev pub IsBound : ℕ → Bound → Type 0
 IsBound gates (Minimum h) = h ≡ 0
 IsBound gates Unknown = 0 < gates
