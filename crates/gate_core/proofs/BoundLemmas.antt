@@ -67,8 +67,8 @@ with_gate_again list after gate x = elim (cases_Bool (list_any (same_gate gate) 
   | inl there ↦ again_there list after gate there (subst (λ g. Extends g after) (with_gate-there list gate there) x) ∙ ap (reached after) (sym (with_gate-signal list gate))
   | inr new ↦
       again_there (with_last list gate) after gate (list_any-append (same_gate gate) list.gates (gate ∷ [])
-          ∙ or_right _ _ (or_left _ _ (same_itself gate)))
-          (subst (λ g. Extends g after) (with_gate-new list gate new) x)
+      ∙ or_right _ _ (or_left _ _ (same_itself gate)))
+      (subst (λ g. Extends g after) (with_gate-new list gate new) x)
       ∙ ap (reached after) (ap (λ n. list.inputs + n) (place_pushed (same_gate gate) list.gates gate (same_itself gate)) ∙ sym (with_gate-signal list gate))
 ]
 
@@ -208,8 +208,8 @@ unfolding joined
 joined_holds one others [] h = holds_more one.gates others (others + 0) (omega arith) h
 joined_holds one others (m ∷ ms) h =
     holds_more _ (others + 1 + length ms) (others + suc (length ms)) (omega arith)
-        (joined_holds (with_gate one.gates (or_gate one.signal m)) (others + 1) ms
-        (with_gate_holds_one one.gates others (or_gate one.signal m) h))
+    (joined_holds (with_gate one.gates (or_gate one.signal m)) (others + 1) ms
+    (with_gate_holds_one one.gates others (or_gate one.signal m) h))
 
 pub joined_extends : (one : Reached) (ms : List ℕ) → Extends one.gates (joined one ms).gates
 unfolding joined
@@ -376,9 +376,9 @@ takes_all_bounded codes before joins ok some h (column ∷ columns) enc after re
     let b = takes_bounded codes before joins column some (enc 0 column (omega arith)) h between t.1 t.4 in
     bounded_more codes after _ _ (omega arith)
     (takes_all_bounded codes between (joins + joins_of codes before column between t.1 t.4) one.gates
-        (omega (arith, one.extends.inputs)) b columns
-        (λ k d l. subst (λ i. IsColumnOnCodes codes i (slice_index_or columns k d)) (sym one.extends.inputs)
-        (enc (suc k) d (omega arith))) after t.2 t.5)
+    (omega (arith, one.extends.inputs)) b columns
+    (λ k d l. subst (λ i. IsColumnOnCodes codes i (slice_index_or columns k d)) (sym one.extends.inputs)
+    (enc (suc k) d (omega arith))) after t.2 t.5)
 
 -- ---- gates over two inputs
 
@@ -453,8 +453,11 @@ pairs_counted m n (g ∷ gates) l ok none = by (nat_lt g.k m) refl (pairs_counte
 pub few_gates : (codes : List ℕ) (list : GateList) (joins : ℕ) → length codes ≤ 64 → IsGateList list → list.inputs ≤ 8 → Bounded codes list joins → length list.gates ≤ shared_gates + joins
 few_gates codes list joins few ok eight h =
     let pairs : pair_gates list.inputs list.gates ≤ 448 =
-        omega (arith, pairs_counted list.inputs list.inputs list.gates eight ok h.holds.none_twice,
-        how_many-le (has_row list.inputs list.gates) 448) in
+    omega (
+      arith,
+      pairs_counted list.inputs list.inputs list.gates eight ok h.holds.none_twice,
+      how_many-le (has_row list.inputs list.gates) 448,
+    ) in
     omega (arith, pairs, pairs_and_others list.inputs list.gates, h.holds.few, product (list.inputs - 2) (done_count codes list) (omega arith) at_most)
   where
     at_most : done_count codes list ≤ 64
@@ -475,9 +478,9 @@ whole_bounded codes before few none some eight columns enc after refs t =
     let ok : IsGateList before = subst (AreGatesFrom before.inputs) (sym none) tt in
     let all = all_taken codes before ok some columns enc after refs t in
     let bound =
-        few_gates codes after (0 + all_joins codes before columns after refs t) few all.gates
-        (omega (arith, all.extends.inputs)) (takes_all_bounded codes before 0 ok some
-        (nothing_bounded codes before none) columns enc after refs t) in
+    few_gates codes after (0 + all_joins codes before columns after refs t) few all.gates
+    (omega (arith, all.extends.inputs)) (takes_all_bounded codes before 0 ok some
+    (nothing_bounded codes before none) columns enc after refs t) in
     omega (arith, bound)
 
 -- where every column needed minterms, there would be as many

@@ -106,7 +106,7 @@ module _ (codes : List ℕ) (column : List Bit3) (ones zeros : ℕ) (asked : IsA
         let ls = one_within column s es in
         let lt = zero_within column t et in
         tells s t (entry_one (entry_at column s) es) (entry_zero (entry_at column t) et) (sym (input_bit j s lj ls)
-            ∙ same_j ∙ input_bit j t lj lt) (sym (input_bit k s lk ls) ∙ same_k ∙ input_bit k t lk lt)
+        ∙ same_j ∙ input_bit j t lj lt) (sym (input_bit k s lk ls) ∙ same_k ∙ input_bit k t lk lt)
 
     pub first_pair_is : (gate : Gate) → IsFirstApart ones zeros words gate → IsFirstPairOfInputs inputs codes column gate
     first_pair_is gate a =

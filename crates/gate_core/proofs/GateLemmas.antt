@@ -55,10 +55,12 @@ gate_at (x ∷ gates) values zero d ok l =
     let n : length (values ++ next_value x values ∷ []) ≡ length values + 1 = length-append values _ in
     earlier_signal gates (values ++ next_value x values ∷ []) (length values + 0) (omega arith)
     ∙ get_or_at values (next_value x values) [] false (length values + 0) (omega arith)
-    ∙ sym (rw (earlier_signal gates (values ++ next_value x values ∷ []) x.j (omega (arith, ok.0, ok.1)),
-        earlier_signal gates (values ++ next_value x values ∷ []) x.k (omega (arith, ok.1)),
-        get_or_append_left values (next_value x values ∷ []) false x.j (omega (arith, ok.0, ok.1)),
-        get_or_append_left values (next_value x values ∷ []) false x.k ok.1) refl)
+    ∙ sym (rw (
+      earlier_signal gates (values ++ next_value x values ∷ []) x.j (omega (arith, ok.0, ok.1)),
+      earlier_signal gates (values ++ next_value x values ∷ []) x.k (omega (arith, ok.1)),
+      get_or_append_left values (next_value x values ∷ []) false x.j (omega (arith, ok.0, ok.1)),
+      get_or_append_left values (next_value x values ∷ []) false x.k ok.1,
+    ) refl)
 gate_at (x ∷ gates) values (suc g) d ok l =
     let n : length (values ++ next_value x values ∷ []) ≡ length values + 1 = length-append values _ in
     let at : length values + suc g ≡ length (values ++ next_value x values ∷ []) + g = omega (arith, n) in

@@ -114,13 +114,18 @@ module _ (may_have : ℕ → ℕ → Type 0) (top n hole : ℕ) (words other : L
 
   values_stand : (i : ℕ) → i < suc n → (p : ℕ) × (p < length marked) × (value i ≡ get_or marked p 0)
   unfolding value marked
-  values_stand zero l =
-      (hole, omega (arith, length-set (take n words) hole top, length-take-le n words size, m.hole_within),
-      sym (get_or-set_same (take n words) hole top 0 (omega (arith, m.hole_within, length-take-le n words size))))
+  values_stand zero l = (
+    hole,
+    omega (arith, length-set (take n words) hole top, length-take-le n words size, m.hole_within),
+    sym (get_or-set_same (take n words) hole top 0 (omega (arith, m.hole_within, length-take-le n words size))),
+  )
   values_stand (suc i) l =
-      let s = stands_by (among i) i refl (omega arith) in
-      (s.0, omega (arith, length-set (take n words) hole top, length-take-le n words size, s.1.within), sym s.1.has
-          ∙ sym (get_or-set_other (take n words) hole s.0 top 0 s.1.other ∙ get_or-take n words s.0 0 s.1.within))
+      let s = stands_by (among i) i refl (omega arith) in (
+        s.0,
+        omega (arith, length-set (take n words) hole top, length-take-le n words size, s.1.within),
+        sym s.1.has
+            ∙ sym (get_or-set_other (take n words) hole s.0 top 0 s.1.other ∙ get_or-take n words s.0 0 s.1.within),
+      )
 
   pub no_matching : ⊥
   unfolding marked

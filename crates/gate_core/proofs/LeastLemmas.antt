@@ -137,9 +137,12 @@ module _ (patterns : List (List Bit3)) (top n : ℕ) (before fixed words : List 
         owned = λ i w l t below may. elim (cases_eq i s) [
           | inl at_s ↦
               let is : w ≡ word =
-                  (subst (λ x. MayHave patterns (take (s + 1) (set fixed s word)) x w) at_s may).kept
-                  (omega (arith, length-take-le (s + 1) (set fixed s word)
-                  (omega (arith, long, length-set fixed s word))))
+              (subst (λ x. MayHave patterns (take (s + 1) (set fixed s word)) x w) at_s may).kept
+              (omega (
+                arith,
+                length-take-le (s + 1) (set fixed s word)
+                    (omega (arith, long, length-set fixed s word)),
+              ))
               ∙ get_or-take (s + 1) (set fixed s word) s 0 (omega arith) ∙ get_or-set_same fixed s word 0 long in
               blocked w (subst (IsBlocked n s words marks) (sym is) owned)
           | inr off ↦ elim (cases_lt i s) [
@@ -147,8 +150,11 @@ module _ (patterns : List (List Bit3)) (top n : ℕ) (before fixed words : List 
                 -- an earlier scenario may have its fixed word alone, which it has
                 let same_word : w ≡ get_or words i 0 =
                 (back i w off may).kept (omega (arith, earlier, length-take-le s before (omega (arith, long_too))))
-                    ∙ sym ((m.had i l).kept (omega (arith, earlier,
-                    length-take-le s before (omega (arith, long_too))))) in
+                ∙ sym ((m.had i l).kept (omega (
+                  arith,
+                  earlier,
+                  length-take-le s before (omega (arith, long_too)),
+                ))) in
                 blocked w (record { owner = i; is_owner = record { within = l; other = off; has = sym same_word }; is_among = or_left (nat_lt i s) (is_in marks i) (lt-ltb i s earlier) })
             | inr later ↦ marked w (tight i w l off (unmarked i off later t) below (back i w off may))
           ]

@@ -52,8 +52,8 @@ first_gate inputs codes column a b x y =
     let make : ℕ → ℕ → ℕ → Gate = λ j k table. record { j = j; k = k; table = table } in
     let at : (p q : Bool) → gate_value a.table p q ≡ gate_value b.table p q =
     λ p q. same_tests (gate_value a.table p q) (gate_value b.table p q) (IsAskedAt codes column a.j a.k p q)
-        (x.table p q) (subst (λ j. IsTrue (gate_value b.table p q) ↔ IsAskedAt codes column j a.k p q) (sym same_j)
-        (subst (λ k. IsTrue (gate_value b.table p q) ↔ IsAskedAt codes column b.j k p q) (sym same_k) (y.table p q))) in
+    (x.table p q) (subst (λ j. IsTrue (gate_value b.table p q) ↔ IsAskedAt codes column j a.k p q) (sym same_j)
+    (subst (λ k. IsTrue (gate_value b.table p q) ↔ IsAskedAt codes column b.j k p q) (sym same_k) (y.table p q))) in
     ap (λ j. make j a.k a.table) same_j ∙ ap (λ k. make b.j k a.table) same_k ∙ ap (make b.j b.k) (same_table a.table b.table x.few_rows y.few_rows at)
   where
     same_j : a.j ≡ b.j

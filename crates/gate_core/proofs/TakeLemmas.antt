@@ -309,8 +309,8 @@ module _ (codes : List ℕ) (inputs : ℕ) (column : List Bit3) (enc : IsColumnO
             | inr d ↦
                 let e : u ≡ t = apart u t lu lt (no_third (first s) (first t) (first u) other d) in
                 subst (λ x. Agrees (entry_at column x) (signed (not (first s)) (first x))) (sym e)
-                    (subst (λ x. Agrees x (signed (not (first s)) (first t))) (sym nil)
-                    (as_second (first s) (first t) other))
+                (subst (λ x. Agrees x (signed (not (first s)) (first t))) (sym nil)
+                (as_second (first s) (first t) other))
           ]
         where
           differ : entry_at column s ≡ Zero → ⊥
@@ -358,8 +358,8 @@ module _ (codes : List ℕ) (before : GateList) (column : List Bit3) (ok : IsGat
             subst (Agrees (entry_at column s)) (sym (value w)) (agrees_by (entry_at column s) (gate_value gate.table (bit w gate.j) (bit w gate.k))
             (λ t. (h.pair.table (bit w gate.j) (bit w gate.k)).1 (s, entry_one (entry_at column s) t, refl, refl))
             (λ t. false_from_ne_true (gate_value gate.table (bit w gate.j) (bit w gate.k))
-                (λ one. let x = (h.pair.table (bit w gate.j) (bit w gate.k)).0 one in
-                h.pair.tells x.0 s x.1 (entry_zero (entry_at column s) t) x.2 x.3))));
+            (λ one. let x = (h.pair.table (bit w gate.j) (bit w gate.k)).0 one in
+            h.pair.tells x.0 s x.1 (entry_zero (entry_at column s) t) x.2 x.3))));
       })
 
   minterms_taken : (after : GateList) (ref : Ref) → IsByMinterms codes before column after ref → IsTaken codes before column after ref
@@ -391,7 +391,7 @@ takes_push codes before (c ∷ columns) between refs column after ref h t = (h.0
 pub takes_next : (codes : List ℕ) (before : GateList) (columns : List (List Bit3)) (i : ℕ) (between : GateList)
     (refs : List Ref) → TakesAll codes before (take i columns) between refs → i < length columns →
     (column : List Bit3) → column ≡ slice_index_or columns i column → (after : GateList) (ref : Ref) →
-        Takes codes between column after ref → TakesAll codes before (take (i + 1) columns) after (refs ++ ref ∷ [])
+    Takes codes between column after ref → TakesAll codes before (take (i + 1) columns) after (refs ++ ref ∷ [])
 takes_next codes before columns i between refs h l column is after ref t =
     let longer : take (i + 1) columns ≡ take i columns ++ column ∷ [] = take_more columns i column l ∙ ap (λ c. take i columns ++ c ∷ []) (sym is) in
     subst (λ cs. TakesAll codes before cs after (refs ++ ref ∷ [])) (sym longer) (takes_push codes before (take i columns) between refs column after ref h t)
@@ -432,9 +432,9 @@ all_taken codes before ok some (column ∷ columns) enc after refs h =
     let rest = h.2 in
     let one = taken codes before column ok some (enc 0 column (omega arith)) between ref h.4 in
     let others =
-        all_taken codes between one.gates (omega (arith, one.extends.inputs)) columns
-        (λ k d l. subst (λ n. IsColumnOnCodes codes n (slice_index_or columns k d)) (sym one.extends.inputs)
-        (enc (suc k) d (omega arith))) after rest h.5 in
+    all_taken codes between one.gates (omega (arith, one.extends.inputs)) columns
+    (λ k d l. subst (λ n. IsColumnOnCodes codes n (slice_index_or columns k d)) (sym one.extends.inputs)
+    (enc (suc k) d (omega arith))) after rest h.5 in
     subst (AllTaken codes before (column ∷ columns) after) (sym h.3) (record {
       extends = extends_trans before between after one.extends others.extends;
       gates = others.gates;

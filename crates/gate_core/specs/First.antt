@@ -175,7 +175,7 @@ pub record IsByMinterms (codes : List ℕ) (before : GateList) (column : List Bi
 abbrev pub Takes : List ℕ → GateList → List Bit3 → GateList → Ref → Type 0
 Takes codes before column after ref =
     IsBySignal codes before column after ref ⊎
-        (IsByPair codes before column after ref ⊎ IsByMinterms codes before column after ref)
+    (IsByPair codes before column after ref ⊎ IsByMinterms codes before column after ref)
 
 -- what columns in order make of the gates before them: the gates after them, and a reference for each
 abbrev pub TakesAll : List ℕ → GateList → List (List Bit3) → GateList → List Ref → Type 0
@@ -220,4 +220,4 @@ shared_gates = 16 * 28 + 64 * 6
 abbrev pub HasFewGates : List ℕ → ℕ → List (List Bit3) → FirstEncoding → Type 0
 HasFewGates codes bits columns e = (first : IsFirstEncoding codes bits columns e) →
     length e.gates.gates ≤
-        shared_gates + all_joins codes (record { inputs = bits; gates = [] }) columns e.gates e.refs first.refs
+    shared_gates + all_joins codes (record { inputs = bits; gates = [] }) columns e.gates e.refs first.refs

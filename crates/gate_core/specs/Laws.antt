@@ -20,7 +20,7 @@ GateSignal =
     (list : GateList) (word g : ℕ) (gate : Gate) → IsGateList list → slice_get list.gates g ≡ Some gate →
     slice_index_or (signal_values list word) (list.inputs + g) false
     ≡ gate_value gate.table (slice_index_or (signal_values list word) gate.j false)
-        (slice_index_or (signal_values list word) gate.k false)
+    (slice_index_or (signal_values list word) gate.k false)
 
 -- there are as many values as signals
 abbrev pub SignalsAreCounted : Type 0
@@ -47,7 +47,7 @@ LeastCodesAgree =
 abbrev pub OpenCodesAreNumbers : Type 0
 OpenCodesAreNumbers =
     (patterns : List (List Bit3)) (top : ℕ) (codes : List ℕ) → NoneGiven patterns → length patterns ≤ top →
-        AreLeast patterns top codes →
+    AreLeast patterns top codes →
     codes ≡ numbers (length patterns)
 
 -- an encoding that keeps given bits is an encoding

@@ -41,7 +41,7 @@ loop-column-preserved c =
           (takes_next codes before c.args.columns.now c.loop-column.column-index c.loop-column.signals.list c.loop-column.refs.items c.loop-column.invariant.taken c.loop-column-test.true
           c.column-item.result c.column-item.is c.take_column.new.signals.list c.in_ok-take_column.field-0
           (subst (λ cs. Takes cs c.loop-column.signals.list c.column-item.result c.take_column.new.signals.list
-              c.in_ok-take_column.field-0) c.loop-column.invariant.codes c.in_ok-take_column.ensures.takes));
+          c.in_ok-take_column.field-0) c.loop-column.invariant.codes c.in_ok-take_column.ensures.takes));
       codes = c.in_ok-take_column.ensures.codes ∙ c.loop-column.invariant.codes;
     }
 

@@ -32,8 +32,8 @@ pub by_minterms-requires-clause-inputs : goal.by_minterms-requires-clause-inputs
 by_minterms-requires-clause-inputs c =
     two_inputs c.args.signals.now.codes c.args.signals.now.list.inputs c.args.column.now c.requires.encodable c.args.signals.now.list refl c.words.ensures.some
     (none_agrees c.args.signals.now.codes c.args.column.now c.asked_by-asked.result.ones c.asked_by-asked.result.zeros
-        c.asked_by-asked.ensures c.requires.encodable.is_open.entries c.requires.encodable.few c.args.signals.now.list
-        c.words.result.now c.words.ensures c.in_default.ensures)
+    c.asked_by-asked.ensures c.requires.encodable.is_open.entries c.requires.encodable.few c.args.signals.now.list
+    c.words.result.now c.words.ensures c.in_default.ensures)
 
 pub returns-clause-takes : goal.returns-clause-takes
 returns-clause-takes c =

@@ -34,9 +34,9 @@ loop-i-preserved c = record {
   minterm =
       next_step c.args.signals.now.list c.args.code c.loop-i.i c.loop-i.signals.list c.loop-i.number c.loop-i.invariant.minterm (c.from.result + 2) c.only_at-in-loop-i.result
       (ap (λ n. n + 2) c.from.ensures) (c.only_at-in-loop-i.ensures
-          ∙ ap (λ b. only_at b true) (c.has_bit-in-loop-i.ensures
-          ∙ ap (λ w. bit w (c.loop-i.i + 2)) c.from-word.ensures))
-          (record { gates = c.with_gate-in-loop-i.new.self.list; signal = c.in_ok-number-2.number })
-          c.in_ok-number-2.ensures.gate;
+      ∙ ap (λ b. only_at b true) (c.has_bit-in-loop-i.ensures
+      ∙ ap (λ w. bit w (c.loop-i.i + 2)) c.from-word.ensures))
+      (record { gates = c.with_gate-in-loop-i.new.self.list; signal = c.in_ok-number-2.number })
+      c.in_ok-number-2.ensures.gate;
   codes = c.in_ok-number-2.ensures.codes ∙ c.loop-i.invariant.codes;
 }
