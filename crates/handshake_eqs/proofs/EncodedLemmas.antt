@@ -132,8 +132,8 @@ module _ (e : Encoding) (is : IsEncoding (length e.graph.ops) e) where
 
 same_parts : {gates gates' : GateList} {conditions conditions' : List Ref} {wires wires' : List (List (Option Ref))} (waits : List Set) → gates ≡ gates' → conditions ≡ conditions' → wires ≡ wires' →
     let whole : GateList → List Ref → List (List (Option Ref)) → Netlist =
-        λ a b c. record { gates = a; conditions = b; wires = c; waits = waits } in
-        whole gates conditions wires ≡ whole gates' conditions' wires'
+    λ a b c. record { gates = a; conditions = b; wires = c; waits = waits } in
+    whole gates conditions wires ≡ whole gates' conditions' wires'
 same_parts waits p q r = rw (p, q, r) refl
 
 -- the same of parts that equal an encoding's

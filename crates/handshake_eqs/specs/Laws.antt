@@ -26,4 +26,4 @@ abbrev pub StepsAreUnique : Type 0
 StepsAreUnique =
     (orders : List Order) (codes : List ℕ) → AllPairs (λ a b. a ≢ b) codes →
     (old : Machine) (event : Event) (a b : Machine) → Step orders codes old event a → Step orders codes old event b →
-        a ≡ b
+    a ≡ b

@@ -44,6 +44,6 @@ ref_code =
 abbrev pub netlist_code : Coded Netlist
 netlist_code = code_by (GateList × (List Ref × (List (List (Option Ref)) × List Set)))
     (coded× gate_list_code (coded× (coded_list ref_code)
-        (coded× (coded_list (coded_list (coded_option ref_code))) (coded_list set_code))))
+    (coded× (coded_list (coded_list (coded_option ref_code))) (coded_list set_code))))
     (λ n. (n.gates, (n.conditions, (n.wires, n.waits))))
     (λ p. record { gates = p.0; conditions = p.1.0; wires = p.1.1.0; waits = p.1.1.1 }) (λ _. refl)

@@ -24,8 +24,8 @@ pub condition_told : (inputs : ℕ) (names : List (List ℕ)) (signals : ℕ) (w
     → equation_row inputs names (ref_equation w r) ≡ equation_row inputs names (ref_equation w s) → r ≡ s
 condition_told inputs names signals w r s fit hr hs e =
     (ref_told inputs names signals r s 59 [] [] fit hr hs refl
-        (append_cancel_left (codes " = ") _ _ (append_cancel_left (wire_text inputs names w) _ _
-        (append_cancel_left (codes "  assign ") _ _ e)))).0
+    (append_cancel_left (codes " = ") _ _ (append_cancel_left (wire_text inputs names w) _ _
+    (append_cancel_left (codes "  assign ") _ _ e)))).0
 
 record SameArc (u v : ℕ) (r : Ref) (u' v' : ℕ) (r' : Ref) : Type 0 where
   first : u ≡ u'
@@ -38,9 +38,9 @@ arc_told inputs names signals u v u' v' r s fit hu hv hu' hv' hr hs e =
     let right : Ref → List ℕ = λ t. codes " = " ++ (ref_text inputs names t ++ codes ";") in
     let text = tails 101 101 _ _ (append_cancel_left (codes "  assign ") _ _ e) in
     let first =
-        decimal_told u u' 95 (decimal v ++ right r) (decimal v' ++ right s) hu hu' refl
-        (sym (append_assoc (decimal u) (codes "_" ++ decimal v) (right r)) ∙ text
-        ∙ append_assoc (decimal u') (codes "_" ++ decimal v') (right s)) in
+    decimal_told u u' 95 (decimal v ++ right r) (decimal v' ++ right s) hu hu' refl
+    (sym (append_assoc (decimal u) (codes "_" ++ decimal v) (right r)) ∙ text
+    ∙ append_assoc (decimal u') (codes "_" ++ decimal v') (right s)) in
     let second = number_told v v' 32 _ _ hv hv' refl first.1 in
     let third = ref_told inputs names signals r s 59 [] [] fit hr hs refl (tails 32 32 _ _ (tails 61 61 _ _ second.1)) in
     record { first = first.0; second = second.0; condition = third.0 }
@@ -67,21 +67,21 @@ one_tells inputs names signals n u v r u' v' (Some s) fit hu hv hu' hv' hr hw is
 half : (inputs : ℕ) (names : List (List ℕ)) (signals : ℕ) (m n : Netlist) (u v : ℕ) (r : Ref) → signals ≤ 2 ^ 64 →
     length m.conditions ≤ 2 ^ 64 → length n.conditions ≤ 2 ^ 64 → u < length m.conditions → v < length m.conditions
     → ((u v : ℕ) → IsWireOver signals (wire_of m u v)) → ((u v : ℕ) → IsWireOver signals (wire_of n u v)) →
-        map (equation_row inputs names) (arc_part m) ≡ map (equation_row inputs names) (arc_part n) →
-        wire_of m u v ≡ Some r → wire_of n u v ≡ Some r
+    map (equation_row inputs names) (arc_part m) ≡ map (equation_row inputs names) (arc_part n) →
+    wire_of m u v ≡ Some r → wire_of n u v ≡ Some r
 half inputs names signals m n u v r fit few few' hu hv over_m over_n e is =
     let Q : List ℕ → Type 0 = Tells inputs names n u v r in
     let P : Equation → Type 0 = λ x. Q (equation_row inputs names x) in
     let over : IsRefOver signals r = subst (IsWireOver signals) is (over_m u v) in
     let all =
-        parts_below P (λ u'. arc_equations_from n u' (length n.conditions)) (length n.conditions)
-        (λ u' lu. parts_below P (λ v'. arc_equation u' v' (wire_of n u' v')) (length n.conditions) (λ v' lv.
+    parts_below P (λ u'. arc_equations_from n u' (length n.conditions)) (length n.conditions)
+    (λ u' lu. parts_below P (λ v'. arc_equation u' v' (wire_of n u' v')) (length n.conditions) (λ v' lv.
     one_tells inputs names signals n u v r u' v' (wire_of n u' v') fit (omega (arith, hu, few))
-        (omega (arith, hv, few)) (omega (arith, lu, few')) (omega (arith, lv, few')) over (over_n u' v') refl)) in
+    (omega (arith, hv, few)) (omega (arith, lu, few')) (omega (arith, lv, few')) over (over_n u' v') refl)) in
     let here =
-        part_below P (λ v'. arc_equation u v' (wire_of m u v')) (length m.conditions) v hv
-        (part_below P (λ u'. arc_equations_from m u' (length m.conditions)) (length m.conditions) u hu
-        (carried Q (equation_row inputs names) (arc_part n) (arc_part m) (sym e) all)) in
+    part_below P (λ v'. arc_equation u v' (wire_of m u v')) (length m.conditions) v hv
+    (part_below P (λ u'. arc_equations_from m u' (length m.conditions)) (length m.conditions) u hu
+    (carried Q (equation_row inputs names) (arc_part n) (arc_part m) (sym e) all)) in
     (subst (λ w. AllByRecursion P (arc_equation u v w)) is here).0 refl
 
 same_option : (x y : Option Ref) → ((r : Ref) → x ≡ Some r → y ≡ Some r) → ((r : Ref) → y ≡ Some r → x ≡ Some r) → x ≡ y

@@ -158,8 +158,8 @@ arc_known n u v lu lv some =
     inner_known n (ArcCondition u v) (Contains-append_right (signals_from n.gates.inputs (length n.gates.gates)) (for_each Condition count ++ arc_wires n) (ArcCondition u v)
     (Contains-append_right (for_each Condition count) (arc_wires n) (ArcCondition u v)
     (in_each_below (λ a. arc_wires_from n a count) count u (ArcCondition u v) lu
-        (in_each_below (λ b. arc_wire u b (wire_of n u b)) count v (ArcCondition u v) lv
-        (in_arc_wire u v (wire_of n u v) some)))))
+    (in_each_below (λ b. arc_wire u b (wire_of n u b)) count v (ArcCondition u v) lv
+    (in_arc_wire u v (wire_of n u v) some)))))
 
 -- ---- what equations speak of
 
@@ -179,8 +179,8 @@ speak_joined n before xs ys hx hy i d lt = elim (cases_lt i (length xs)) [
   | inr from ↦ (
       let e : (before + length xs) + (i - length xs) ≡ before + i = omega arith in
       rw (get_or-append_right xs ys (length xs) i d refl from)
-          (subst (λ k. SpeaksOf (known_at n k) (get_or ys (i - length xs) d)) e
-          (hy (i - length xs) d (omega (arith, lt, from, length-append xs ys)))))
+      (subst (λ k. SpeaksOf (known_at n k) (get_or ys (i - length xs) d)) e
+      (hy (i - length xs) d (omega (arith, lt, from, length-append xs ys)))))
 ]
 
 -- equations that speak of what is known earlier
@@ -218,8 +218,14 @@ conditions_speak : (m : ModuleValue) → IsModule m → SpeakOfSignals m.netlist
 conditions_speak m is =
     let n : Netlist = m.netlist in
     parts_below (SpeaksOf (known_at n (length n.gates.gates))) (λ v. condition_equation v (condition_of n v) ∷ [])
-        (length n.conditions) (λ v lt. (record { read = reads_signals n (condition_of n v)
-        (is.netlist.conditions_over v); named = tt }, tt))
+    (length n.conditions) (λ v lt. (
+      record {
+        read = reads_signals n (condition_of n v)
+            (is.netlist.conditions_over v);
+        named = tt;
+      },
+      tt,
+    ))
 
 arc_speaks : (n : Netlist) (u v : ℕ) (w : Option Ref) → IsWireOver (signal_count n.gates) w → SpeakOfSignals n (arc_equation u v w)
 arc_speaks n u v None over = tt
@@ -263,8 +269,8 @@ equations_speak m is =
     let inner : length (inner_part n) ≡ length (inner_wires n) = sym (length-map (inner_part n) (λ (e : Equation). e.wire)) ∙ ap length (inner_assigned n) in
     let later : SpeakBehind n (0 + length (gate_equations n.gates)) (condition_part n ++ arc_part n) =
     speak_all n gates _ (condition_part n ++ arc_part n) (omega (arith, so_many))
-        (parts_joined (SpeaksOf (known_at n gates)) (condition_part n) (arc_part n) (conditions_speak m is)
-        (arcs_speak m is)) in
+    (parts_joined (SpeaksOf (known_at n gates)) (condition_part n) (arc_part n) (conditions_speak m is)
+    (arcs_speak m is)) in
     subst (SpeakBehind n 0) (parts_regrouped n)
     (speak_joined n 0 (inner_part n) (request_part n ++ end_part n) (speak_joined n 0 (gate_equations n.gates) (condition_part n ++ arc_part n) (gates_speak m is) later)
     (speak_all n (length (inner_wires n)) _ (request_part n ++ end_part n) (omega (arith, inner)) (outputs_speak m is)))

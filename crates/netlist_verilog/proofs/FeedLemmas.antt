@@ -52,7 +52,7 @@ wire_free m (Condition v) is own = clean_front (codes "c_") (name_of m.names v) 
 wire_free m (ArcCondition u v) is own =
     clean_front (codes "e") (decimal u ++ (codes "_" ++ decimal v)) refl
     (joined_free (decimal u) (codes "_" ++ decimal v) (decimal_free u (omega (arith, own.0, is.netlist.few)))
-        (clean_front (codes "_") (decimal v) refl (decimal_free v (omega (arith, own.1, is.netlist.few)))))
+    (clean_front (codes "_") (decimal v) refl (decimal_free v (omega (arith, own.1, is.netlist.few)))))
 
 grouped_free : (least tight : ℕ) (t : List ℕ) → NoFeed t → NoFeed (grouped least tight t)
 grouped_free least tight t h = chosen (nat_lt tight least)
@@ -71,12 +71,12 @@ formula_free m (Read w) is h = wire_free m w is h
 formula_free m (Not f) is h = clean_front (codes "~") _ refl (grouped_free 4 (tightness f) (formula_text m.netlist.gates.inputs m.names f) (formula_free m f is h))
 formula_free m (And f g) is h =
     infix_free (codes " & ") _ _ refl (grouped_free 2 (tightness f) (formula_text m.netlist.gates.inputs m.names f)
-        (formula_free m f is h.0)) (grouped_free 3 (tightness g) (formula_text m.netlist.gates.inputs m.names g)
-        (formula_free m g is h.1))
+    (formula_free m f is h.0)) (grouped_free 3 (tightness g) (formula_text m.netlist.gates.inputs m.names g)
+    (formula_free m g is h.1))
 formula_free m (Xor f g) is h =
     infix_free (codes " ^ ") _ _ refl (grouped_free 1 (tightness f) (formula_text m.netlist.gates.inputs m.names f)
-        (formula_free m f is h.0)) (grouped_free 2 (tightness g) (formula_text m.netlist.gates.inputs m.names g)
-        (formula_free m g is h.1))
+    (formula_free m f is h.0)) (grouped_free 2 (tightness g) (formula_text m.netlist.gates.inputs m.names g)
+    (formula_free m g is h.1))
 formula_free m (Or f g) is h =
     infix_free (codes " | ") _ _ refl (formula_free m f is h.0) (grouped_free 1 (tightness g) (formula_text m.netlist.gates.inputs m.names g) (formula_free m g is h.1))
 
@@ -84,8 +84,8 @@ comment_free : (m : ModuleValue) (c : Option (Wire × Wire)) → IsModule m → 
 comment_free m None is h = tt
 comment_free m (Some both) is h =
     clean_front (codes " /* ") _ refl (joined_free _ _ (wire_free m both.0 is h.0)
-        (clean_front (codes " ") _ refl (joined_free _ (codes " */") (wire_free m both.1 is h.1)
-        (clean_free (codes " */") refl))))
+    (clean_front (codes " ") _ refl (joined_free _ (codes " */") (wire_free m both.1 is h.1)
+    (clean_free (codes " */") refl))))
 
 row_free : (m : ModuleValue) (e : Equation) → IsModule m → IsEquationOf m e → NoFeed (equation_row m.netlist.gates.inputs m.names e)
 row_free m e is h =

@@ -104,16 +104,16 @@ shaped inputs names signals b0 b1 b2 b3 j k lower earlier = row b0 b1 b2 b3
   where
     one : {b0 b1 b2 b3 : Bool} (r : Ref) → IsRefOver signals r → parts_of (Alone r j k) ≡ (b0, b1, b2, b3, j, k)
         → shown inputs names (gate_formula b0 b1 b2 b3 (Signal j) (Signal k)) j k ≡ ref_text inputs names r ++
-            (comment_text inputs names (Some (Signal j, Signal k)) ++ codes ";") →
-            IsShaped inputs names signals b0 b1 b2 b3 j k
+        (comment_text inputs names (Some (Signal j, Signal k)) ++ codes ";") →
+        IsShaped inputs names signals b0 b1 b2 b3 j k
     one r over parts text =
         record { shape = Alone r j k; fits = (over, omega arith, earlier); text = text ∙ alone_text (ref_text inputs names r) (signal_text inputs j) (signal_text inputs k); parts = parts }
 
     two : {b0 b1 b2 b3 : Bool} (op : ℕ) (a b : Bool) → eqb op 47 ≡ false → two_parts op (references.Signal j a) (references.Signal k b) ≡ (b0, b1, b2, b3, j, k)
         → shown inputs names (gate_formula b0 b1 b2 b3 (Signal j) (Signal k)) j k ≡
-            (ref_text inputs names (references.Signal j a) ++
-            (32 ∷ op ∷ 32 ∷ ref_text inputs names (references.Signal k b))) ++ codes ";" →
-            IsShaped inputs names signals b0 b1 b2 b3 j k
+        (ref_text inputs names (references.Signal j a) ++
+        (32 ∷ op ∷ 32 ∷ ref_text inputs names (references.Signal k b))) ++ codes ";" →
+        IsShaped inputs names signals b0 b1 b2 b3 j k
     two op a b not_comment parts text = record {
       shape = Joined op (references.Signal j a) (references.Signal k b);
       fits = (not_comment, omega arith, earlier);

@@ -60,9 +60,9 @@ equations_over m is =
     let wire : Equation → Wire = λ e. e.wire in
     let drivers : HasOneDriverEach m = one_driver m is in
     let assigned : All (IsWireOf m) (map wire es) =
-        subst (All (IsWireOf m)) (sym drivers.assigned)
-        (All-from_recursion (IsWireOf m) (inner_wires n ++ output_wires n)
-        (parts_joined (IsWireOf m) (inner_wires n) (output_wires n) (inner_own m) (outputs_own m))) in
+    subst (All (IsWireOf m)) (sym drivers.assigned)
+    (All-from_recursion (IsWireOf m) (inner_wires n ++ output_wires n)
+    (parts_joined (IsWireOf m) (inner_wires n) (output_wires n) (inner_own m) (outputs_own m))) in
     recursion_from_All (IsEquationOf m) es (λ i d lt.
     let e : Equation = slice_index_or es i d in
     let speaks = drivers.reads_known i d lt in

@@ -29,8 +29,8 @@ first_told t u ts us ht hu e =
     let a = after_text ts in
     let b = after_text us in
     let e' : t ++ a.0 ∷ a.1 ≡ u ++ b.0 ∷ b.1 =
-        ap (λ (z : List ℕ). t ++ z) (sym a.3) ∙ sym (append_assoc t (joined false ts) (codes ";")) ∙ e
-        ∙ append_assoc u (joined false us) (codes ";") ∙ ap (λ (z : List ℕ). u ++ z) b.3 in
+    ap (λ (z : List ℕ). t ++ z) (sym a.3) ∙ sym (append_assoc t (joined false ts) (codes ";")) ∙ e
+    ∙ append_assoc u (joined false us) (codes ";") ∙ ap (λ (z : List ℕ). u ++ z) b.3 in
     let r = words_told continues_name t u a.0 b.0 a.1 b.1 ht hu a.2 b.2 e' in
     (r.0, a.3 ∙ r.1 ∙ sym b.3)
 
@@ -67,11 +67,15 @@ inputs_pass : (m : ModuleValue) → IsModule m → AllByRecursion (AllPass conti
 inputs_pass m is =
     parts_joined (AllPass continues_name) (input_signals m) (codes "go" ∷ acknowledges m)
     (parts_below (AllPass continues_name) (λ k. signal_text m.netlist.gates.inputs
-        (0 + k) ∷ []) m.netlist.gates.inputs (λ k lt.
-        (signal_passes m.netlist.gates.inputs (0 + k) (omega (arith, is.few_inputs)), tt)))
-    ((refl, (refl, tt)), parts_below (AllPass continues_name) (λ v. (codes "a_" ++ name_of m.names v) ∷ [])
-        (length m.netlist.conditions) (λ v lt. ((refl, (refl, name_passes m.names v (names_pass m.names is.names))),
-        tt)))
+    (0 + k) ∷ []) m.netlist.gates.inputs (λ k lt.
+    (signal_passes m.netlist.gates.inputs (0 + k) (omega (arith, is.few_inputs)), tt))) (
+      (refl, (refl, tt)),
+      parts_below (AllPass continues_name) (λ v. (codes "a_" ++ name_of m.names v) ∷ [])
+          (length m.netlist.conditions) (λ v lt. (
+            (refl, (refl, name_passes m.names v (names_pass m.names is.names))),
+            tt,
+          )),
+    )
 
 -- whether a text begins as an input signal does
 abbrev is_input : List ℕ → Bool
@@ -101,17 +105,17 @@ pub record SamePorts (a b : ModuleValue) : Type 0 where
 pub ports_told : (a b : ModuleValue) → IsModule a → IsModule b → inputs_row a ≡ inputs_row b → SamePorts a b
 ports_told a b ia ib e =
     let text : (m : ModuleValue) → joined true (wire_texts m (input_wires m.netlist)) ++ codes ";" ≡ joined true
-        (inputs_of m) ++ codes ";" = λ m. ap (λ (ts : List (List ℕ)). joined true ts ++ codes ";") (input_texts m) in
+    (inputs_of m) ++ codes ";" = λ m. ap (λ (ts : List (List ℕ)). joined true ts ++ codes ";") (input_texts m) in
     let same : inputs_of a ≡ inputs_of b =
     joined_told (inputs_of a) (inputs_of b) (some_texts (input_signals a) (acknowledges a) (codes "go"))
-        (some_texts (input_signals b) (acknowledges b) (codes "go")) (inputs_pass a ia) (inputs_pass b ib)
+    (some_texts (input_signals b) (acknowledges b) (codes "go")) (inputs_pass a ia) (inputs_pass b ib)
     (sym (text a) ∙ append_cancel_left (codes "  input ") _ _ e ∙ text b) in
     let split = parted is_input (input_signals a) (input_signals b) (codes "go" ∷ acknowledges a) (codes "go" ∷ acknowledges b) (signals_are a) (signals_are b) (others_not a) (others_not b) same in
     let signals = ones_told (λ k. signal_text a.netlist.gates.inputs (0 + k)) (λ k. signal_text b.netlist.gates.inputs (0 + k)) a.netlist.gates.inputs b.netlist.gates.inputs split.0 in
     let acks =
-        ones_told (λ v. codes "a_" ++ name_of a.names v) (λ v. codes "a_" ++ name_of b.names v)
-        (length a.netlist.conditions) (length b.netlist.conditions)
-        (cons_parts (codes "go") (codes "go") (acknowledges a) (acknowledges b) split.1).1 in
+    ones_told (λ v. codes "a_" ++ name_of a.names v) (λ v. codes "a_" ++ name_of b.names v)
+    (length a.netlist.conditions) (length b.netlist.conditions)
+    (cons_parts (codes "go") (codes "go") (acknowledges a) (acknowledges b) split.1).1 in
     record {
       inputs = signals.0;
       count = acks.0;

@@ -240,9 +240,13 @@ runs (single xor e) = λ ts o rs. (None, formula e, refl, runs e ts o None rs)
 runs (single or e) = λ ts rs. let h = runs e ts None rs in (None, h.0, h.1, h.2, h.3)
 runs (joined and e g) = λ ts o x rs. split (tokens e) (tokens g) ts and (frame o x None false) rs ∙ runs e (operator and ∷ (tokens g ++ ts)) o x rs ∙ runs g ts o x (Some (formula e)) rs
 runs (joined xor e g) = λ ts o rs.
-    let h = runs e (operator xor ∷ (tokens g ++ ts)) o rs in
-    (Some (formula e), formula g, refl, split (tokens e) (tokens g) ts xor (frame o None None false) rs ∙ h.3
-        ∙ ap (λ f. run (tokens g ++ ts) (frame o (Some f) None false) rs) h.2 ∙ runs g ts o (Some (formula e)) rs)
+    let h = runs e (operator xor ∷ (tokens g ++ ts)) o rs in (
+      Some (formula e),
+      formula g,
+      refl,
+      split (tokens e) (tokens g) ts xor (frame o None None false) rs ∙ h.3
+          ∙ ap (λ f. run (tokens g ++ ts) (frame o (Some f) None false) rs) h.2 ∙ runs g ts o (Some (formula e)) rs,
+    )
 runs (joined or e g) = λ ts rs.
     let h = runs e (operator or ∷ (tokens g ++ ts)) rs in
     let k = runs g ts (Some (formula e)) rs in

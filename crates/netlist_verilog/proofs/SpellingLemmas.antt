@@ -43,34 +43,102 @@ name_letters : (m : ModuleValue) (v b : ℕ) → IsModule m → begins_name b �
     lengthens opening b ≡ false → kind_at b ≡ 0 → is_blank b ≡ false → eqb b 47 ≡ false →
     Letters (b ∷ 95 ∷ name_of m.names v)
 name_letters m v b is begins tilde' opening' kind' blank' slash' =
-    record { first = b; rest = 95 ∷ name_of m.names v; whole = refl; begins = begins; goes_on = (refl,
-    name_passes m.names v (names_pass m.names is.names)); not_after_tilde = tilde'; not_after_opening = opening';
-    kind_is = kind'; is_no_blank = blank'; is_no_slash = slash' }
+    record {
+      first = b;
+      rest = 95 ∷ name_of m.names v;
+      whole = refl;
+      begins = begins;
+      goes_on = (
+        refl,
+        name_passes m.names v (names_pass m.names is.names),
+      );
+      not_after_tilde = tilde';
+      not_after_opening = opening';
+      kind_is = kind';
+      is_no_blank = blank';
+      is_no_slash = slash';
+    }
 
 pub letters : (m : ModuleValue) (w : Wire) → IsModule m → IsWireOf m w → Letters (called m w)
 letters m (Signal n) is lt = elim (signal_cases m.netlist.gates.inputs n) [
-  | inl h ↦ record { first = 120; rest = decimal n; whole = h.1; begins = refl; goes_on = decimal_continues n
-      (signal_fits m n is lt); not_after_tilde = refl; not_after_opening = refl; kind_is = refl; is_no_blank = refl;
-      is_no_slash = refl }
-  | inr h ↦ record { first = 103; rest = decimal
-      (n - m.netlist.gates.inputs); whole = h.1; begins = refl;
-      goes_on = decimal_continues (n - m.netlist.gates.inputs) (let fits = signal_fits m n is lt in
-      omega (arith, fits)); not_after_tilde = refl; not_after_opening = refl; kind_is = refl; is_no_blank = refl;
-      is_no_slash = refl }
+  | inl h ↦ record {
+    first = 120;
+    rest = decimal n;
+    whole = h.1;
+    begins = refl;
+    goes_on = decimal_continues n
+        (signal_fits m n is lt);
+    not_after_tilde = refl;
+    not_after_opening = refl;
+    kind_is = refl;
+    is_no_blank = refl;
+    is_no_slash = refl;
+  }
+  | inr h ↦ record {
+    first = 103;
+    rest = decimal
+        (n - m.netlist.gates.inputs);
+    whole = h.1;
+    begins = refl;
+    goes_on = decimal_continues (n - m.netlist.gates.inputs) (let fits = signal_fits m n is lt in
+        omega (arith, fits));
+    not_after_tilde = refl;
+    not_after_opening = refl;
+    kind_is = refl;
+    is_no_blank = refl;
+    is_no_slash = refl;
+  }
 ]
 letters m Go is lt =
-    record { first = 103; rest = codes "o"; whole = refl; begins = refl; goes_on = (refl,
-    tt); not_after_tilde = refl; not_after_opening = refl; kind_is = refl; is_no_blank = refl; is_no_slash = refl }
+    record {
+      first = 103;
+      rest = codes "o";
+      whole = refl;
+      begins = refl;
+      goes_on = (
+        refl,
+        tt,
+      );
+      not_after_tilde = refl;
+      not_after_opening = refl;
+      kind_is = refl;
+      is_no_blank = refl;
+      is_no_slash = refl;
+    }
 letters m (Acknowledge v) is lt = name_letters m v 97 is refl refl refl refl refl refl
 letters m (Request v) is lt = name_letters m v 114 is refl refl refl refl refl refl
 letters m Done is lt =
-    record { first = 100; rest = codes "one"; whole = refl; begins = refl; goes_on = (refl,
-    (refl, (refl, tt))); not_after_tilde = refl; not_after_opening = refl; kind_is = refl; is_no_blank = refl;
-    is_no_slash = refl }
+    record {
+      first = 100;
+      rest = codes "one";
+      whole = refl;
+      begins = refl;
+      goes_on = (
+        refl,
+        (refl, (refl, tt)),
+      );
+      not_after_tilde = refl;
+      not_after_opening = refl;
+      kind_is = refl;
+      is_no_blank = refl;
+      is_no_slash = refl;
+    }
 letters m Idle is lt =
-    record { first = 105; rest = codes "dle"; whole = refl; begins = refl; goes_on = (refl,
-    (refl, (refl, tt))); not_after_tilde = refl; not_after_opening = refl; kind_is = refl; is_no_blank = refl;
-    is_no_slash = refl }
+    record {
+      first = 105;
+      rest = codes "dle";
+      whole = refl;
+      begins = refl;
+      goes_on = (
+        refl,
+        (refl, (refl, tt)),
+      );
+      not_after_tilde = refl;
+      not_after_opening = refl;
+      kind_is = refl;
+      is_no_blank = refl;
+      is_no_slash = refl;
+    }
 letters m (Condition v) is lt = name_letters m v 99 is refl refl refl refl refl refl
 letters m (ArcCondition u v) is lt = record {
   first = 101;
@@ -149,11 +217,19 @@ after_blank m (t ∷ ts) text s = (s.0, record { known = s.1.known; gap = blank 
 
 pub after_comment : (m : ModuleValue) (bytes : List ℕ) (ts : List Token) (text : List ℕ) → HoldsNoEnd bytes → Spells m ts text → Spells m ts (47 ∷ 42 ∷ (bytes ++ 42 ∷ 47 ∷ text))
 after_comment m bytes [] text h s = (comment bytes s.0, (h, s.1), ap (λ (x : List ℕ). 47 ∷ 42 ∷ (bytes ++ 42 ∷ 47 ∷ x)) s.2)
-after_comment m bytes (t ∷ ts) text h s =
-    (s.0, record { known = s.1.known; gap = comment bytes s.1.gap; is_gap = (h, s.1.is_gap); whole = ap
-    (λ (x : List ℕ). 47 ∷ 42 ∷ (bytes ++ 42 ∷ 47 ∷ x)) s.1.whole
-    ∙ ap (λ (x : List ℕ). 47 ∷ 42 ∷ x) (sym (append_assoc bytes (42 ∷ 47 ∷ gap_text s.1.gap) _)); ends = s.1.ends },
-    s.2)
+after_comment m bytes (t ∷ ts) text h s = (
+  s.0,
+  record {
+    known = s.1.known;
+    gap = comment bytes s.1.gap;
+    is_gap = (h, s.1.is_gap);
+    whole = ap
+        (λ (x : List ℕ). 47 ∷ 42 ∷ (bytes ++ 42 ∷ 47 ∷ x)) s.1.whole
+        ∙ ap (λ (x : List ℕ). 47 ∷ 42 ∷ x) (sym (append_assoc bytes (42 ∷ 47 ∷ gap_text s.1.gap) _));
+    ends = s.1.ends;
+  },
+  s.2,
+)
 
 pub before : (m : ModuleValue) (t : Token) (ts : List Token) (rest : List ℕ) → IsTokenOf m t → NoneFirst (lengthens t) rest → Spells m ts rest → Spells m (t ∷ ts) (token_text m t ++ rest)
 before m t ts rest known ends s = (rest, record { known = known; gap = nothing; is_gap = tt; whole = refl; ends = ends }, s)
@@ -183,10 +259,10 @@ formula_first m (Read w) rest is own = let l = letters m w is own in subst (λ (
 formula_first m (Not f) rest is own = refl
 formula_first m (And f g) rest is own =
     subst (NoneFirst (lengthens opening)) (sym (append_assoc (grouped 2 (tightness f) (text m f)) _ rest))
-        (grouped_first (lengthens opening) 2 (tightness f) (text m f) _ refl (formula_first m f _ is own.0))
+    (grouped_first (lengthens opening) 2 (tightness f) (text m f) _ refl (formula_first m f _ is own.0))
 formula_first m (Xor f g) rest is own =
     subst (NoneFirst (lengthens opening)) (sym (append_assoc (grouped 1 (tightness f) (text m f)) _ rest))
-        (grouped_first (lengthens opening) 1 (tightness f) (text m f) _ refl (formula_first m f _ is own.0))
+    (grouped_first (lengthens opening) 1 (tightness f) (text m f) _ refl (formula_first m f _ is own.0))
 formula_first m (Or f g) rest is own = subst (NoneFirst (lengthens opening)) (sym (append_assoc (text m f) _ rest)) (formula_first m f _ is own.0)
 
 -- nor does one of a primary of a tilde
@@ -311,8 +387,8 @@ placed : (m : ModuleValue) (goal : Level) (f : Formula) → IsModule m → Reads
 placed m goal f is own h =
     subst (λ (ts : List Token). Carries m ts (grouped (rank goal) (tightness f) (text m f))) (sym (fits goal (level f) (expression f)).spelled)
     (subst (λ (r : ℕ). Carries m (cond (nat_lt r (rank goal)) (opening ∷ (tokens (expression f) ++ closing ∷ []))
-        (tokens (expression f))) (grouped (rank goal) (tightness f) (text m f))) (sym (level_rank f))
-        (chosen (nat_lt (tightness f) (rank goal))))
+    (tokens (expression f))) (grouped (rank goal) (tightness f) (text m f))) (sym (level_rank f))
+    (chosen (nat_lt (tightness f) (rank goal))))
   where
     chosen : (b : Bool) → Carries m (cond b (opening ∷ (tokens (expression f) ++ closing ∷ [])) (tokens (expression f))) (cond b (codes "(" ++ (text m f ++ codes ")")) (text m f))
     chosen false = h
@@ -331,8 +407,8 @@ between m o xs ys x y hx hy ts rest ends s =
     let left = hx (operator o ∷ (ys ++ ts)) (32 ∷ (token_text m (operator o) ++ (32 ∷ (y ++ rest)))) (blank_ends (token_text m (operator o) ++ (32 ∷ (y ++ rest)))) sign in
     subst (λ (zs : List Token). Spells m zs ((x ++ (32 ∷ (token_text m (operator o) ++ (32 ∷ y)))) ++ rest)) (sym (append_assoc xs (operator o ∷ ys) ts))
     (subst (λ (z : List ℕ). Spells m (xs ++ operator o ∷ (ys ++ ts)) z)
-        (ap (λ (z : List ℕ). x ++ 32 ∷ z) (sym (append_assoc (token_text m (operator o)) (32 ∷ y) rest))
-        ∙ sym (append_assoc x _ rest)) left)
+    (ap (λ (z : List ℕ). x ++ 32 ∷ z) (sym (append_assoc (token_text m (operator o)) (32 ∷ y) rest))
+    ∙ sym (append_assoc x _ rest)) left)
 
 pub spelled : (m : ModuleValue) (f : Formula) → IsModule m → ReadsOnly (IsWireOf m) f → Carries m (tokens (expression f)) (text m f)
 spelled m (Bit false) is own = λ ts rest ends s. before m (bit false) ts rest tt (ends (bit false)) s

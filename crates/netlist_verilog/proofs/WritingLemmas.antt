@@ -96,8 +96,8 @@ wires_more m f n a b h =
     ap (λ x. x ++ joined false (wire_texts m (f n))) h
     ∙ append_assoc a (joined false (wire_texts m (each_below f n))) (joined false (wire_texts m (f n)))
     ∙ ap (λ x. a ++ x) (sym (joined_append false (wire_texts m (each_below f n)) (wire_texts m (f n)))
-        ∙ ap (joined false) (sym (map-append _ (each_below f n) (f n)))
-        ∙ ap (λ k. joined false (wire_texts m (each_below f k))) (sym (add-one n)))
+    ∙ ap (joined false) (sym (map-append _ (each_below f n) (f n)))
+    ∙ ap (λ k. joined false (wire_texts m (each_below f k))) (sym (add-one n)))
 
 -- the texts of wires by number
 pub texts_below : (m : ModuleValue) (f : ℕ → Wire) (n : ℕ) → wire_texts m (each_below (λ k. f k ∷ []) n) ≡ each_below (λ k. wire_texts m (f k ∷ [])) n
@@ -172,8 +172,8 @@ gate_written m bits g gate a o1 o2 o3 eb eg e1 e2 e3 =
 -- a line whose formula goes on after its first part
 pub each_written : (m : ModuleValue) (w : Wire) (first : Formula) (passes : ℕ → Bool) (each : ℕ → Formula) (n : ℕ) (a o1 o2 o3 : List ℕ) → ((text : List ℕ) → grouped 2 (tightness first) text ≡ text)
     → o1 ≡ a ++ (codes "  assign " ++ (wire_text m.netlist.gates.inputs m.names w ++
-        (codes " = " ++ formula_text m.netlist.gates.inputs m.names first))) →
-        o2 ≡ o1 ++ each_below (λ k. and_text m (passes k) (each k)) n → o3 ≡ o2 ++ codes ";\n"
+    (codes " = " ++ formula_text m.netlist.gates.inputs m.names first))) →
+    o2 ≡ o1 ++ each_below (λ k. and_text m (passes k) (each k)) n → o3 ≡ o2 ++ codes ";\n"
     → o3 ≡ a ++ text_of (equation_rows m (record { wire = w; formula = and_each first passes each n; comment = None } ∷ []))
 each_written m w first passes each n a o1 o2 o3 tight e1 e2 e3 =
     let name = wire_text m.netlist.gates.inputs m.names w in
@@ -188,8 +188,8 @@ each_written m w first passes each n a o1 o2 o3 tight e1 e2 e3 =
 
 pub request_written : (m : ModuleValue) (v : ℕ) (name : List ℕ) (a o1 o2 o3 : List ℕ) → name ≡ name_of m.names v → o1 ≡ a ++ (codes "  assign r_" ++ (name ++ (codes " = go & c_" ++ name)))
     → o2 ≡ o1 ++ each_below (λ u. and_text m (set.contains (waits_of m.netlist v) u) (arc_formula v u))
-        (length m.netlist.conditions) → o3 ≡ o2 ++ codes ";\n" →
-        o3 ≡ a ++ text_of (equation_rows m (request_equation m.netlist v ∷ []))
+    (length m.netlist.conditions) → o3 ≡ o2 ++ codes ";\n" →
+    o3 ≡ a ++ text_of (equation_rows m (request_equation m.netlist v ∷ []))
 request_written m v name a o1 o2 o3 en e1 e2 e3 =
     each_written m (Request v) (And (Read Go) (Read (Condition v))) (set.contains (waits_of m.netlist v)) (arc_formula v) (length m.netlist.conditions) a o1 o2 o3 (λ text. refl)
     (e1 ∙ ap (λ x. a ++ (codes "  assign r_" ++ (x ++ (codes " = go & c_" ++ x)))) en) e2 e3
@@ -208,8 +208,8 @@ wait_joined name du dv =
 pub wait_written : (m : ModuleValue) (u v : ℕ) (name : List ℕ) (waits : Set) (here : Bool) (a new : List ℕ) →
     name ≡ name_of m.names u → waits ≡ waits_of m.netlist v → here ≡ set.contains waits u → here ≡ true
     → new ≡ a ++ (codes " & (a_" ++ (name ++
-        (codes " | ~c_" ++ (name ++ (codes " | ~e" ++ (decimal u ++ (codes "_" ++ (decimal v ++ codes ")")))))))) →
-        new ≡ a ++ and_text m (set.contains (waits_of m.netlist v) u) (arc_formula v u)
+    (codes " | ~c_" ++ (name ++ (codes " | ~e" ++ (decimal u ++ (codes "_" ++ (decimal v ++ codes ")")))))))) →
+    new ≡ a ++ and_text m (set.contains (waits_of m.netlist v) u) (arc_formula v u)
 wait_written m u v name waits here a new en ew eh yes' e =
     e
     ∙ ap (λ x. a ++ x) (wait_joined name (decimal u) (decimal v))
@@ -268,7 +268,7 @@ output_texts m =
 
 pub inputs_written : (m : ModuleValue) (bits count : ℕ) (names : List (List ℕ)) (a o1 o2 o3 : List ℕ) → IsModule m → bits ≡ m.netlist.gates.inputs → count ≡ bits → names ≡ m.names
     → o1 ≡ a ++ joined true (each_below (λ k. signal_text bits (0 + k) ∷ []) count) → o2 ≡ o1 ++ codes ", go" →
-        o3 ≡ o2 ++ joined false (each_below (λ v. (codes "a_" ++ name_of names v) ∷ []) (length names))
+    o3 ≡ o2 ++ joined false (each_below (λ v. (codes "a_" ++ name_of names v) ∷ []) (length names))
     → o3 ≡ a ++ joined true (wire_texts m (input_wires m.netlist))
 inputs_written m bits count names a o1 o2 o3 is eb ec en e1 e2 e3 =
     let ts : ℕ → ℕ → List (List ℕ) = λ b n. each_below (λ k. signal_text b (0 + k) ∷ []) n in
@@ -285,7 +285,7 @@ inputs_written m bits count names a o1 o2 o3 is eb ec en e1 e2 e3 =
 
 pub outputs_written : (m : ModuleValue) (len : ℕ) (names : List (List ℕ)) (sep a o1 o2 : List ℕ) → IsModule m → names ≡ m.names → len ≡ length names → sep ≡ separator (eqb len 0)
     → o1 ≡ a ++ joined true (each_below (λ v. (codes "r_" ++ name_of names v) ∷ []) (length names)) →
-        o2 ≡ o1 ++ (sep ++ codes "done, idle") → o2 ≡ a ++ joined true (wire_texts m (output_wires m.netlist))
+    o2 ≡ o1 ++ (sep ++ codes "done, idle") → o2 ≡ a ++ joined true (wire_texts m (output_wires m.netlist))
 outputs_written m len names sep a o1 o2 is en el es e1 e2 =
     let us : List (List ℕ) → ℕ → List (List ℕ) = λ ns n. each_below (λ v. (codes "r_" ++ name_of ns v) ∷ []) n in
     let count = length m.netlist.conditions in
@@ -302,7 +302,7 @@ pub ports_written : (inputs outputs a o1 o2 o3 o4 o5 o6 o7 o8 o9 : List ℕ) →
     o2 ≡ o1 ++ inputs → o3 ≡ o2 ++ codes ", " → o4 ≡ o3 ++ outputs → o5 ≡ o4 ++ codes ");\n  input " →
     o6 ≡ o5 ++ inputs → o7 ≡ o6 ++ codes ";\n  output " → o8 ≡ o7 ++ outputs → o9 ≡ o8 ++ codes ";\n"
     → o9 ≡ a ++ text_of ((codes "module cpog(" ++ (inputs ++ (codes ", " ++ (outputs ++ codes ");")))) ∷
-        (codes "  input " ++ (inputs ++ codes ";")) ∷ (codes "  output " ++ (outputs ++ codes ";")) ∷ [])
+    (codes "  input " ++ (inputs ++ codes ";")) ∷ (codes "  output " ++ (outputs ++ codes ";")) ∷ [])
 ports_written i o a o1 o2 o3 o4 o5 o6 o7 o8 o9 e1 e2 e3 e4 e5 e6 e7 e8 e9 =
     let header : List ℕ = codes "module cpog(" ++ (i ++ (codes ", " ++ (o ++ codes ");"))) in
     let first : List ℕ = codes "  input " ++ (i ++ codes ";") in
@@ -311,8 +311,8 @@ ports_written i o a o1 o2 o3 o4 o5 o6 o7 o8 o9 e1 e2 e3 e4 e5 e6 e7 e8 e9 =
     e5 ∙ ap (λ x. x ++ codes ");\n  input ") (e4 ∙ ap (λ x. x ++ o) (e3 ∙ ap (λ x. x ++ codes ", ") (e2 ∙ ap (λ x. x ++ i) e1))) ∙ head i o a in
     let q7 : o7 ≡ (a ++ text_of (header ∷ first ∷ [])) ++ codes "  output " =
     e7 ∙ ap (λ x. x ++ codes ";\n  output ") (e6 ∙ ap (λ x. x ++ i) q5)
-        ∙ port (a ++ text_of (header ∷ [])) (codes "  input ") i (codes "  output ")
-        ∙ ap (λ x. x ++ codes "  output ") (text_more a (header ∷ []) (first ∷ [])) in
+    ∙ port (a ++ text_of (header ∷ [])) (codes "  input ") i (codes "  output ")
+    ∙ ap (λ x. x ++ codes "  output ") (text_more a (header ∷ []) (first ∷ [])) in
     e9 ∙ ap (λ x. x ++ codes ";\n") (e8 ∙ ap (λ x. x ++ o) q7) ∙ port (a ++ text_of (header ∷ first ∷ [])) (codes "  output ") o [] ∙ append-nil _ ∙ text_more a (header ∷ first ∷ []) (second ∷ [])
   where
     head : (i o a : List ℕ) → ((((a ++ codes "module cpog(") ++ i) ++ codes ", ") ++ o) ++ codes ");\n  input " ≡
@@ -343,8 +343,8 @@ nil_both false b c h = refl
 
 pub inner_texts : (m : ModuleValue) → wire_texts m (inner_wires m.netlist)
     ≡ each_below (λ k. signal_text m.netlist.gates.inputs (m.netlist.gates.inputs + k) ∷ [])
-        (length m.netlist.gates.gates) ++ (each_below (λ v. (codes "c_" ++ name_of m.names v) ∷ [])
-        (length m.netlist.conditions) ++ wire_texts m (arc_wires m.netlist))
+    (length m.netlist.gates.gates) ++ (each_below (λ v. (codes "c_" ++ name_of m.names v) ∷ [])
+    (length m.netlist.conditions) ++ wire_texts m (arc_wires m.netlist))
 inner_texts m =
     map-append _ (signals_from m.netlist.gates.inputs (length m.netlist.gates.gates)) (for_each Condition (length m.netlist.conditions) ++ arc_wires m.netlist)
     ∙ ap₂ (λ x y. x ++ y) (texts_below m (λ k. Signal (m.netlist.gates.inputs + k)) (length m.netlist.gates.gates))
@@ -359,11 +359,11 @@ no_wire_lines m n en h =
 pub wires_written : (m : ModuleValue) (bits start gates : ℕ) (first : Bool) (names : List (List ℕ))
     (a o1 o2 o3 o4 o5 : List ℕ) → IsModule m → 0 < length m.netlist.gates.gates + length m.netlist.conditions
     → bits ≡ m.netlist.gates.inputs → start ≡ bits → gates ≡ length m.netlist.gates.gates → first ≡ eqb gates 0 →
-        names ≡ m.names → o1 ≡ a ++ codes "  wire " →
-        o2 ≡ o1 ++ joined true (each_below (λ k. signal_text bits (start + k) ∷ []) gates)
+    names ≡ m.names → o1 ≡ a ++ codes "  wire " →
+    o2 ≡ o1 ++ joined true (each_below (λ k. signal_text bits (start + k) ∷ []) gates)
     → o3 ≡ o2 ++ joined first (each_below (λ v. (codes "c_" ++ name_of names v) ∷ []) (length names)) →
-        o4 ≡ o3 ++ joined false (wire_texts m (arc_wires m.netlist)) → o5 ≡ o4 ++ codes ";\n" →
-        o5 ≡ a ++ text_of (wire_lines (wire_texts m (inner_wires m.netlist)))
+    o4 ≡ o3 ++ joined false (wire_texts m (arc_wires m.netlist)) → o5 ≡ o4 ++ codes ";\n" →
+    o5 ≡ a ++ text_of (wire_lines (wire_texts m (inner_wires m.netlist)))
 wires_written m bits start gates first names a o1 o2 o3 o4 o5 is some eb es eg ef en e1 e2 e3 e4 e5 =
     let inputs = m.netlist.gates.inputs in
     let count = length m.netlist.conditions in
@@ -386,7 +386,7 @@ wires_written m bits start gates first names a o1 o2 o3 o4 o5 is some eb es eg e
     e2 ∙ ap₂ (λ x n. x ++ joined true (ts bits start n)) e1 eg ∙ ap₂ (λ b s. (a ++ codes "  wire ") ++ joined true (ts b s g)) eb (es ∙ eb) in
     let p3 : o3 ≡ ((a ++ codes "  wire ") ++ joined true gs) ++ joined (is_nil gs) cs =
     e3 ∙ ap₂ (λ x y. x ++ joined first y) p2 (ap (λ ns. us ns (length ns)) en ∙ ap (us m.names) is.one_name_each)
-        ∙ ap (λ b. ((a ++ codes "  wire ") ++ joined true gs) ++ joined b cs) (ef ∙ ap (λ n. eqb n 0) eg ∙ sym ng) in
+    ∙ ap (λ b. ((a ++ codes "  wire ") ++ joined true gs) ++ joined b cs) (ef ∙ ap (λ n. eqb n 0) eg ∙ sym ng) in
     e5
     ∙ ap (λ x. x ++ codes ";\n") (e4 ∙ ap (λ x. x ++ joined false arcs) p3)
     ∙ pieces a (joined true gs) (joined (is_nil gs) cs) (joined false arcs)
@@ -431,8 +431,8 @@ pub module_written : (m : ModuleValue) (a o1 o2 o3 o4 o5 o6 o7 o8 o9 : List ℕ)
     o1 ≡ a ++ text_of (port_lines m) → o2 ≡ o1 ++ text_of (wire_lines (wire_texts m (inner_wires n))) → o3 ≡ o2 ++ text_of (rows (gate_equations n.gates))
     → o4 ≡ o3 ++ text_of (rows (each_below (λ v. condition_equation v (condition_of n v) ∷ []) count)) → o5 ≡ o4 ++ text_of (rows (each_below (λ u. arc_equations_from n u count) count))
     → o6 ≡ o5 ++ text_of (rows (each_below (λ v. request_equation n v ∷ []) count)) →
-        o7 ≡ o6 ++ text_of (rows (done_equation count ∷ [])) → o8 ≡ o7 ++ text_of (rows (idle_equation count ∷ [])) →
-        o9 ≡ o8 ++ codes "endmodule\n"
+    o7 ≡ o6 ++ text_of (rows (done_equation count ∷ [])) → o8 ≡ o7 ++ text_of (rows (idle_equation count ∷ [])) →
+    o9 ≡ o8 ++ codes "endmodule\n"
     → o9 ≡ a ++ text_of (module_lines m)
 module_written m a o1 o2 o3 o4 o5 o6 o7 o8 o9 e1 e2 e3 e4 e5 e6 e7 e8 e9 =
     let n : Netlist = m.netlist in
@@ -445,10 +445,10 @@ module_written m a o1 o2 o3 o4 o5 o6 o7 o8 o9 e1 e2 e3 e4 e5 e6 e7 e8 e9 =
     let add : List (List ℕ) → List ℕ → List ℕ = λ ls x. x ++ text_of ls in
     e9
     ∙ ap (add (codes "endmodule" ∷ [])) (e8 ∙ ap (add (rows (idle_equation count ∷ []))) (e7
-        ∙ ap (add (rows (done_equation count ∷ []))) (e6
-        ∙ ap (add (rows es4)) (e5 ∙ ap (add (rows es3)) (e4
-        ∙ ap (add (rows es2)) (e3 ∙ ap (add (rows (gate_equations n.gates))) (e2 ∙ ap (add wires) e1)))))))
+    ∙ ap (add (rows (done_equation count ∷ []))) (e6
+    ∙ ap (add (rows es4)) (e5 ∙ ap (add (rows es3)) (e4
+    ∙ ap (add (rows es2)) (e3 ∙ ap (add (rows (gate_equations n.gates))) (e2 ∙ ap (add wires) e1)))))))
     ∙ parts_written (port_lines m) wires (rows (gate_equations n.gates)) (rows es2) (rows es3) (rows es4)
-        (equation_row n.gates.inputs m.names (done_equation count))
-        (equation_row n.gates.inputs m.names (idle_equation count)) (codes "endmodule") a
+    (equation_row n.gates.inputs m.names (done_equation count))
+    (equation_row n.gates.inputs m.names (idle_equation count)) (codes "endmodule") a
     ∙ ap (λ ls. a ++ text_of (port_lines m ++ (wires ++ (ls ++ codes "endmodule" ∷ [])))) (sym (rows_split m (gate_equations n.gates) es2 es3 es4 (done_equation count ∷ idle_equation count ∷ [])))

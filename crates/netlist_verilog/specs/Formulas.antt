@@ -79,4 +79,4 @@ comment_text inputs names (Some both) =
 abbrev pub equation_row : ℕ → List (List ℕ) → Equation → List ℕ
 equation_row inputs names e =
     codes "  assign " ++ (wire_text inputs names e.wire ++
-        (codes " = " ++ (formula_text inputs names e.formula ++ (comment_text inputs names e.comment ++ codes ";"))))
+    (codes " = " ++ (formula_text inputs names e.formula ++ (comment_text inputs names e.comment ++ codes ";"))))

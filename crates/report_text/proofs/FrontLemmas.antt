@@ -109,9 +109,9 @@ module _ (r : ReportValue) (is : IsReport r) where
       let gate : Gate = get_or r.encoding.gates.gates g (record { j = 0; k = 0; table = 0 }) in
       let reads = gate_reads r.encoding.gates.inputs r.encoding.gates.gates g (record { j = 0; k = 0; table = 0 }) is.encoding.gates lt in
       let second =
-          clean_front (codes " ") _ refl (joined_free (signal_text r.bits gate.k) _
-          (signal_free r.bits gate.k (omega (arith, reads.1, lt, signals_fit)))
-          (clean_front (codes " ") (digits_of 4 gate.table) refl (digits_free 4 gate.table))) in
+      clean_front (codes " ") _ refl (joined_free (signal_text r.bits gate.k) _
+      (signal_free r.bits gate.k (omega (arith, reads.1, lt, signals_fit)))
+      (clean_front (codes " ") (digits_of 4 gate.table) refl (digits_free 4 gate.table))) in
       let first = clean_front (codes " ") _ refl (joined_free (signal_text r.bits gate.j) _ (signal_free r.bits gate.j (omega (arith, reads.0, reads.1, lt, signals_fit))) second) in
       front_line (codes "g") _ refl (joined_free (decimal g) _ (decimal_free g (omega (arith, lt, is.few_gates))) first)
 
@@ -122,10 +122,12 @@ module _ (r : ReportValue) (is : IsReport r) where
       (λ g lt. (gate_front g lt, tt))
 
   pub ops_front : AllByRecursion IsFrontLine (op_lines r.bits r.names r.encoding.graph)
-  ops_front = AllBy-below IsFrontLine (λ v. op_row r.bits (name_of r.names v) (op_ref r.encoding.graph v) ∷ []) (length r.names) (λ v lt.
-      (front_line (codes "op ") _ refl (joined_free (name_of r.names v) _ (operation_free v)
-          (clean_front (codes " ") _ refl (ref_free r.bits (signal_count r.encoding.gates)
-          (op_ref r.encoding.graph v) signals_fit (is.encoding.graph.over (Op (record { 0 = v })) lt)))), tt))
+  ops_front = AllBy-below IsFrontLine (λ v. op_row r.bits (name_of r.names v) (op_ref r.encoding.graph v) ∷ []) (length r.names) (λ v lt. (
+    front_line (codes "op ") _ refl (joined_free (name_of r.names v) _ (operation_free v)
+        (clean_front (codes " ") _ refl (ref_free r.bits (signal_count r.encoding.gates)
+        (op_ref r.encoding.graph v) signals_fit (is.encoding.graph.over (Op (record { 0 = v })) lt)))),
+    tt,
+  ))
 
   unless_zero_front : (line : List ℕ) (ref : Ref) → IsFrontLine line → AllByRecursion IsFrontLine (line_unless_zero line ref)
   unless_zero_front line (Const false) h = tt
@@ -135,9 +137,9 @@ module _ (r : ReportValue) (is : IsReport r) where
   arc_front : (u v : ℕ) → u < length r.names → v < length r.names → IsFrontLine (arc_row r.bits (name_of r.names u) (name_of r.names v) (arc_ref r.encoding.graph u v))
   arc_front u v lu lv =
       let ref =
-          clean_front (codes " ") _ refl (ref_free r.bits (signal_count r.encoding.gates)
-          (arc_ref r.encoding.graph u v) signals_fit
-          (ref_over (length r.names) (signal_count r.encoding.gates) r.encoding.graph u v is.encoding.graph lu lv)) in
+      clean_front (codes " ") _ refl (ref_free r.bits (signal_count r.encoding.gates)
+      (arc_ref r.encoding.graph u v) signals_fit
+      (ref_over (length r.names) (signal_count r.encoding.gates) r.encoding.graph u v is.encoding.graph lu lv)) in
       front_line (codes "arc ") _ refl (joined_free (name_of r.names u) _ (operation_free u) (clean_front (codes " ") _ refl (joined_free (name_of r.names v) _ (operation_free v) ref)))
 
   pub arcs_front : AllByRecursion IsFrontLine (arc_lines r.bits r.names r.encoding.graph)

@@ -124,8 +124,8 @@ ref_over n signals graph u v is hu hv = elim (cases_eq u v) [
 pub entries_fit : (n signals : ℕ) (graph : ConditionalGraph) → IsGraph n signals graph → AllByRecursion (FitsEntry n signals) (arc_entries graph n)
 entries_fit n signals graph is =
     AllBy-below (FitsEntry n signals) (entries_from graph n) n
-        (λ u hu. AllBy-below (FitsEntry n signals) (λ v. entry u v (arc_ref graph u v)) n
-        (λ v hv. entry_fits n signals u v (arc_ref graph u v) hu hv (ref_over n signals graph u v is hu hv)))
+    (λ u hu. AllBy-below (FitsEntry n signals) (λ v. entry u v (arc_ref graph u v)) n
+    (λ v hv. entry_fits n signals u v (arc_ref graph u v) hu hv (ref_over n signals graph u v is hu hv)))
 
 same_entry : (a b : Entry) → a.0 ≡ b.0 → a.1.0 ≡ b.1.0 → a.1.1 ≡ b.1.1 → a ≡ b
 same_entry a b p q r = λ i. (p i, (q i, r i))

@@ -1,6 +1,5 @@
 -- The words of a report's lines tell what they stand for.
-use Rattle.std.proofs.Common.{◌≡◌, ℕ, zero, suc, ◌-◌, ◌^◌, ◌<◌, ◌≤◌, Bool, true, false, eqb, List, [], ◌∷◌, ◌++◌, map, get_or, refl, sym, ap, ap₂, ◌∙◌, inl, inr, arith}
-use Rattle.std.specs.Fmt.{decimal}
+use Rattle.std.proofs.Common.{◌≡◌, ℕ, ◌^◌, ◌<◌, ◌≤◌, Bool, true, false, List, [], ◌∷◌, ◌++◌, map, get_or, refl, sym, ap, ap₂, ◌∙◌, arith}
 use Rattle.std.proofs.lemmas.Nat.Bits.{same_from_bits_below, bit_at-lt}
 use Rattle.cpog_defs.specs.Codes.{word_bits}
 use Rattle.cpog_defs.specs.Gates.{IsRefOver}
@@ -9,7 +8,6 @@ use Rattle.cpog_defs.specs.declared.types.Ref.TheVariants.{Const, Signal}
 use Rattle.gate_core.proofs.GateLemmas.{get_or-word_bits}
 use Rattle.line_text.specs.Words.{continues_name}
 use Rattle.line_text.proofs.TellingLemmas.{AllPass, word_told, heads, tails}
-use Rattle.netlist_verilog.specs.Wires.{signal_text}
 use Rattle.netlist_verilog.proofs.GateRowLemmas.{same_bit}
 use Rattle.netlist_verilog.proofs.WordLemmas.{not_signal, signal_told}
 use Rattle.report_text.specs.Rows.{digit, digits_of, ref_text}

@@ -84,8 +84,8 @@ gates_row count = codes "gates " ++ decimal count
 abbrev pub gate_row : ℕ → ℕ → Gate → List ℕ
 gate_row inputs g gate =
     codes "g" ++ (decimal g ++ (codes " " ++
-        (signal_text inputs gate.j ++ (codes " " ++
-        (signal_text inputs gate.k ++ (codes " " ++ digits_of 4 gate.table))))))
+    (signal_text inputs gate.j ++ (codes " " ++
+    (signal_text inputs gate.k ++ (codes " " ++ digits_of 4 gate.table))))))
 
 -- the lines of the gates, in their order
 abbrev pub gate_lines : ℕ → List Gate → List (List ℕ)

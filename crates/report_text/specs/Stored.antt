@@ -46,11 +46,17 @@ encoding_code =
 abbrev pub report_code : Coded ReportValue
 report_code = code_by (ℕ × (ℕ × (List (List ℕ) × (List (List ℕ) × (List Scenario × (Encoding × (Bound × Netlist)))))))
     (coded× coded_ℕ (coded× coded_ℕ (coded× (coded_list (coded_list coded_ℕ))
-        (coded× (coded_list (coded_list coded_ℕ))
-        (coded× (coded_list scenario_code) (coded× encoding_code (coded× bound_code netlist_code)))))))
+    (coded× (coded_list (coded_list coded_ℕ))
+    (coded× (coded_list scenario_code) (coded× encoding_code (coded× bound_code netlist_code)))))))
     (λ r. (r.bits, (r.budget, (r.names, (r.scenario_names, (r.scenarios, (r.encoding, (r.bound, r.netlist))))))))
     (λ p. record {
-      bits = p.0; budget = p.1.0; names = p.1.1.0; scenario_names = p.1.1.1.0; scenarios = p.1.1.1.1.0;
-      encoding = p.1.1.1.1.1.0; bound = p.1.1.1.1.1.1.0; netlist = p.1.1.1.1.1.1.1;
+      bits = p.0;
+      budget = p.1.0;
+      names = p.1.1.0;
+      scenario_names = p.1.1.1.0;
+      scenarios = p.1.1.1.1.0;
+      encoding = p.1.1.1.1.1.0;
+      bound = p.1.1.1.1.1.1.0;
+      netlist = p.1.1.1.1.1.1.1;
     })
     (λ _. refl)

@@ -24,23 +24,23 @@ returns-in-Idle-clause-none c =
 pub returns-in-Running-clause-some : goal.returns-in-Running-clause-some
 returns-in-Running-clause-some c = (is_found c.args.orders.now c.args.codes.now c.args.machine.now c.args.event c.from_running.result _ c.requires.one_each c.requires.scenario
     (λ m h. subst (λ old. Step c.args.orders.now c.args.codes.now old c.args.event m) (sym c.in-Running.is)
-        (h c.args.orders.now c.args.codes.now (order_there c.args.orders.now c.in-Running.scenario c.in-Running.acked
-        c.args.machine.now c.index-orders-scenario.result c.in-Running.is c.requires.scenario
-        c.index-orders-scenario.is))) c.from_running.ensures.some).some
+    (h c.args.orders.now c.args.codes.now (order_there c.args.orders.now c.in-Running.scenario c.in-Running.acked
+    c.args.machine.now c.index-orders-scenario.result c.in-Running.is c.requires.scenario
+    c.index-orders-scenario.is))) c.from_running.ensures.some).some
 
 pub returns-in-Running-clause-kept : goal.returns-in-Running-clause-kept
 returns-in-Running-clause-kept c = (is_found c.args.orders.now c.args.codes.now c.args.machine.now c.args.event c.from_running.result _ c.requires.one_each c.requires.scenario
     (λ m h. subst (λ old. Step c.args.orders.now c.args.codes.now old c.args.event m) (sym c.in-Running.is)
-        (h c.args.orders.now c.args.codes.now (order_there c.args.orders.now c.in-Running.scenario c.in-Running.acked
-        c.args.machine.now c.index-orders-scenario.result c.in-Running.is c.requires.scenario
-        c.index-orders-scenario.is))) c.from_running.ensures.some).kept
+    (h c.args.orders.now c.args.codes.now (order_there c.args.orders.now c.in-Running.scenario c.in-Running.acked
+    c.args.machine.now c.index-orders-scenario.result c.in-Running.is c.requires.scenario
+    c.index-orders-scenario.is))) c.from_running.ensures.some).kept
 
 pub returns-in-Running-clause-scenario : goal.returns-in-Running-clause-scenario
 returns-in-Running-clause-scenario c = (is_found c.args.orders.now c.args.codes.now c.args.machine.now c.args.event c.from_running.result _ c.requires.one_each c.requires.scenario
     (λ m h. subst (λ old. Step c.args.orders.now c.args.codes.now old c.args.event m) (sym c.in-Running.is)
-        (h c.args.orders.now c.args.codes.now (order_there c.args.orders.now c.in-Running.scenario c.in-Running.acked
-        c.args.machine.now c.index-orders-scenario.result c.in-Running.is c.requires.scenario
-        c.index-orders-scenario.is))) c.from_running.ensures.some).scenario
+    (h c.args.orders.now c.args.codes.now (order_there c.args.orders.now c.in-Running.scenario c.in-Running.acked
+    c.args.machine.now c.index-orders-scenario.result c.in-Running.is c.requires.scenario
+    c.index-orders-scenario.is))) c.from_running.ensures.some).scenario
 
 pub returns-in-Running-clause-none : goal.returns-in-Running-clause-none
 returns-in-Running-clause-none c =

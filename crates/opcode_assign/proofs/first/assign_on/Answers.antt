@@ -15,23 +15,21 @@ first_encode-requires-clause-codes c = subst (λ n. AreCodes c.args.bits n c.arg
 
 pub new-requires-clause-encoding : goal.new-requires-clause-encoding
 new-requires-clause-encoding c =
-    let f : Encoding = record { codes = c.in_ok-codes.field-0.codes.items; gates = c.in_ok-codes.field-0.gates; graph = c.in_ok-graph.graph } in
     let refs : c.deref.result.now ≡ c.in_ok-codes.field-0.refs.items = cc in
-    let made : IsAssignmentOn c.args.codes.now (count_of c.args.orders.now) c.args.orders.now c.args.bits f =
-        shown_assignment f c.requires.codes c.in_ok-codes.ensures.codes c.in_ok-codes.ensures.gates.1 c.in_ok-codes.ensures.gates.0
-        c.in_ok-columns.ensures.columns.count c.in_ok-columns.ensures.columns c.in_ok-list.ensures.classes c.columns-2.ensures.columns refs
-        c.in_ok-codes.ensures.first c.in_ok-codes.ensures.refs c.in_ok-graph.ensures.graph c.in_ok-graph.ensures.conditions in
-    subst (λ n. IsEncoding n f) (sym made.encoding.graph.ops) made.encoding
+    let made = shown_assignment c.in_ok-codes.field-0.codes.items c.in_ok-codes.field-0.gates c.in_ok-graph.graph c.requires.codes
+    c.in_ok-codes.ensures.codes c.in_ok-codes.ensures.gates.1 c.in_ok-codes.ensures.gates.0 c.in_ok-columns.ensures.columns.count
+    c.in_ok-columns.ensures.columns c.in_ok-list.ensures.classes c.columns-2.ensures.columns refs c.in_ok-codes.ensures.first
+    c.in_ok-codes.ensures.refs c.in_ok-graph.ensures.graph c.in_ok-graph.ensures.conditions in
+    rw (made.encoding.graph.ops) made.encoding
 
 pub returns-clause-assigned : goal.returns-clause-assigned
 returns-clause-assigned c =
-    let f : Encoding = record { codes = c.in_ok-codes.field-0.codes.items; gates = c.in_ok-codes.field-0.gates; graph = c.in_ok-graph.graph } in
     let refs : c.deref.result.now ≡ c.in_ok-codes.field-0.refs.items = cc in
-    let made : IsAssignmentOn c.args.codes.now (count_of c.args.orders.now) c.args.orders.now c.args.bits f =
-        shown_assignment f c.requires.codes c.in_ok-codes.ensures.codes c.in_ok-codes.ensures.gates.1 c.in_ok-codes.ensures.gates.0
-        c.in_ok-columns.ensures.columns.count c.in_ok-columns.ensures.columns c.in_ok-list.ensures.classes c.columns-2.ensures.columns refs
-        c.in_ok-codes.ensures.first c.in_ok-codes.ensures.refs c.in_ok-graph.ensures.graph c.in_ok-graph.ensures.conditions in
-    subst (λ (e : Encoding). IsAssignmentOn c.args.codes.now (count_of c.args.orders.now) c.args.orders.now c.args.bits e) (sym c.new.ensures) made
+    let made = shown_assignment c.in_ok-codes.field-0.codes.items c.in_ok-codes.field-0.gates c.in_ok-graph.graph c.requires.codes
+    c.in_ok-codes.ensures.codes c.in_ok-codes.ensures.gates.1 c.in_ok-codes.ensures.gates.0 c.in_ok-columns.ensures.columns.count
+    c.in_ok-columns.ensures.columns c.in_ok-list.ensures.classes c.columns-2.ensures.columns refs c.in_ok-codes.ensures.first
+    c.in_ok-codes.ensures.refs c.in_ok-graph.ensures.graph c.in_ok-graph.ensures.conditions in
+    subst (IsAssignmentOn c.args.codes.now (count_of c.args.orders.now) c.args.orders.now c.args.bits) (sym c.new.ensures) made
 
 pub returns-clause-encodes : goal.returns-clause-encodes
 returns-clause-encodes c = λ patterns kept.
@@ -53,7 +51,7 @@ returns-clause-encodes c = λ patterns kept.
 pub returns-clause-few_gates : goal.returns-clause-few_gates
 returns-clause-few_gates c = λ few_ops.
     let few =
-        joining_lem c.args.orders.now c.in_ok-columns.columns c.in_ok-list.list c.requires.scenarios.alike few_ops
-        c.in_ok-columns.ensures.columns c.in_ok-list.ensures.classes c.requires.scenarios.few in
+    joining_lem c.args.orders.now c.in_ok-columns.columns c.in_ok-list.list c.requires.scenarios.alike few_ops
+    c.in_ok-columns.ensures.columns c.in_ok-list.ensures.classes c.requires.scenarios.few in
     let made = few_by_smaller _ _ _ _ c.in_ok-codes.ensures.first c.in_ok-codes.ensures.few_gates in
     search rules

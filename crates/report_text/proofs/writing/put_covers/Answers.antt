@@ -18,6 +18,6 @@ pub arcs-preserved : goal.arcs-preserved
 arcs-preserved c =
     c.in_ok-write.ensures.bytes
     ∙ covers_more c.args.names.now c.arcs-arc-items.result.now c.arcs.arc-index
-        (record { 0 = 0 }, record { 0 = 0 }) c.get-first.result.now c.get-second.result.now _ _ c.arcs-test.true
-        (at_place _ _ _ _ c.from.ensures c.get-first.ensures)
-        (at_place _ _ _ _ c.from-in-arcs.ensures c.get-second.ensures) c.arcs.invariant
+    (record { 0 = 0 }, record { 0 = 0 }) c.get-first.result.now c.get-second.result.now _ _ c.arcs-test.true
+    (at_place _ _ _ _ c.from.ensures c.get-first.ensures)
+    (at_place _ _ _ _ c.from-in-arcs.ensures c.get-second.ensures) c.arcs.invariant
