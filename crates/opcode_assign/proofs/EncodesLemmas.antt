@@ -18,8 +18,10 @@ use Rattle.cpog_merge.specs.ByClass.{IsGraphByClass}
 use Rattle.cpog_merge.proofs.AgreeLemmas.{graph_by_class_lem}
 
 -- codes and gates that serve the classes, and a graph whose conditions are those of the classes, encode the scenarios
-pub by_class_encodes : (count bits : ℕ) (orders : List Order) (patterns : List (List Bit3)) (t : Columns) (list : Classes) (refs : List Ref) (e : Encoding)
-    → ((f : Encoding) → IsEncoding count f → Fits f orders ↔ AgreesWith f t) → t.scenarios ≡ length orders → t.count ≡ count → AreClassesOf t list
+pub by_class_encodes : (count bits : ℕ) (orders : List Order) (patterns : List (List Bit3)) (t : Columns)
+    (list : Classes) (refs : List Ref) (e : Encoding)
+    → ((f : Encoding) → IsEncoding count f → Fits f orders ↔ AgreesWith f t) → t.scenarios ≡ length orders →
+        t.count ≡ count → AreClassesOf t list
     → e.gates.inputs ≡ bits → AreCodes bits (length orders) e.codes → KeepGivenBits patterns e.codes → IsEncoding count e
     → ReferencesServe list.columns e.codes e.gates refs → IsGraphByClass count list refs e.graph
     → Encodes count orders patterns bits e
@@ -33,7 +35,8 @@ by_class_encodes count bits orders patterns t list refs e fits scenarios same ar
 }
 
 -- the least codes, and the assignment on them
-pub first_from : (codes : List ℕ) (count bits : ℕ) (orders : List Order) (patterns : List (List Bit3)) (e : Encoding) → AreLeast patterns (2 ^ bits) codes → IsAssignmentOn codes count orders bits e
+pub first_from : (codes : List ℕ) (count bits : ℕ) (orders : List Order) (patterns : List (List Bit3))
+    (e : Encoding) → AreLeast patterns (2 ^ bits) codes → IsAssignmentOn codes count orders bits e
     → IsFirstAssignment count orders patterns bits e
 first_from codes count bits orders patterns e least on = record {
   codes = subst (AreLeast patterns (2 ^ bits)) (sym on.first.same_codes) least;
@@ -41,14 +44,19 @@ first_from codes count bits orders patterns e least on = record {
 }
 
 -- what is made on the codes is the assignment on them
-pub assignment_on : (codes : List ℕ) (count bits n : ℕ) (orders : List Order) (t : Columns) (list : Classes) (refs : List Ref) (e : Encoding)
-    → AreCodes bits n codes → e.codes ≡ codes → e.gates.inputs ≡ bits → IsGateList e.gates → t.count ≡ count → AreColumnsOf orders t → AreClassesOf t list
+pub assignment_on : (codes : List ℕ) (count bits n : ℕ) (orders : List Order) (t : Columns) (list : Classes)
+    (refs : List Ref) (e : Encoding)
+    → AreCodes bits n codes → e.codes ≡ codes → e.gates.inputs ≡ bits → IsGateList e.gates → t.count ≡ count →
+        AreColumnsOf orders t → AreClassesOf t list
     → IsFirstEncoding codes bits list.columns (record { codes = e.codes; gates = e.gates; refs = refs })
-    → IsGraph list.count (signal_count e.gates) e.graph → IsGraphByClass list.count list refs e.graph → IsAssignmentOn codes count orders bits e
+    → IsGraph list.count (signal_count e.gates) e.graph → IsGraphByClass list.count list refs e.graph →
+        IsAssignmentOn codes count orders bits e
 assignment_on codes count bits n orders t list refs e are same inputs gates count_is columns classes first graph conditions =
     let whole : list.count ≡ count = classes.count ∙ count_is in record {
       encoding = record {
-        codes = subst (All (λ word. word < 2 ^ e.gates.inputs)) (sym same) (subst (λ b. All (λ word. word < 2 ^ b) codes) (sym inputs) are.within);
+        codes =
+            subst (All (λ word. word < 2 ^ e.gates.inputs)) (sym same)
+            (subst (λ b. All (λ word. word < 2 ^ b) codes) (sym inputs) are.within);
         gates = gates;
         graph = subst (λ k. IsGraph k (signal_count e.gates) e.graph) whole graph;
       };
@@ -72,7 +80,9 @@ pub shown_assignment : {count bits n : ℕ} {orders : List Order} {t : Columns} 
     → ((signals : ℕ) → All (IsRefOver signals) shown → IsGraph list.count signals graph)
     → IsGraphByClass list.count list shown graph
     → IsAssignmentOn codes count orders bits (record { codes = made; gates = gates; graph = graph })
-shown_assignment {count} {bits} {n} {orders} {t} {list} {columns} {shown} {refs} {codes} made gates graph are same inputs is count_is is_table classes shows refs_are first serves square conditions =
+shown_assignment {count} {bits} {n} {orders} {t} {list} {columns} {shown} {refs}
+    {codes} made gates graph are same inputs is count_is is_table classes shows refs_are first serves square
+    conditions =
     assignment_on codes count bits n orders t list refs (record { codes = made; gates = gates; graph = graph })
     are same inputs is count_is is_table classes
     (subst (λ cs. IsFirstEncoding codes bits cs (record { codes = made; gates = gates; refs = refs })) shows first)
