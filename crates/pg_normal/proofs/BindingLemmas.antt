@@ -111,10 +111,11 @@ module _ (count : ℕ) where
 
   normal_fits : (params : List (List ℕ)) (before : Before) (e : Expr) (bindings : List (List ℕ × Bool)) (x : Normal) →
       Orders before → Below (numbers_of e) → IsNormal params before e bindings x → Fits x
-  normal_fits params before e bindings x h below is =
-      (of_keys x.form.vertices (subst Below (sym is.form.vertices)
-          (all_filtered (λ v. v < count) _ (first_appearing before.orders e) (first_below before.orders h e below))),
-          (is.binding.few.1, sets_only_fixed params bindings x.binding is.binding))
+  normal_fits params before e bindings x h below is = (
+    of_keys x.form.vertices (subst Below (sym is.form.vertices)
+        (all_filtered (λ v. v < count) _ (first_appearing before.orders e) (first_below before.orders h e below))),
+    (is.binding.few.1, sets_only_fixed params bindings x.binding is.binding),
+  )
 
   statement_fits : (params : List (List ℕ)) (before : Before) (s : Statement) (R : List Normal → Type 0) →
       ((xs : List Normal) → R xs → AllByRecursion Fits xs) → Orders before → Below (statement_numbers s)

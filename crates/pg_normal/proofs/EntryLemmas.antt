@@ -72,12 +72,12 @@ pushed test (e ∷ es) k t new =
     (elim (test e.0) as (λ b. (test k ≡ true → cond b (Some e.1) (lookup test es) ≡ None) →
     word (cond b (Some e.1) (lookup test (es ++ (k, t) ∷ []))) ≡ cond (test k) t.0
     (word (cond b (Some e.1) (lookup test es)))) [
-  | true ↦ λ none. elim (cases_Bool (test k)) [
-    | inl same ↦ absurd (some_none (none same))
-    | inr other ↦ ap (λ b. cond b t.0 e.1.0) (sym other)
-  ]
-  | false ↦ λ none. pushed test es k t none
-]) new
+      | true ↦ λ none. elim (cases_Bool (test k)) [
+        | inl same ↦ absurd (some_none (none same))
+        | inr other ↦ ap (λ b. cond b t.0 e.1.0) (sym other)
+      ]
+      | false ↦ λ none. pushed test es k t none
+    ]) new
   where
     some_none : Some e.1 ≡ None → ⊥
     some_none same = cc

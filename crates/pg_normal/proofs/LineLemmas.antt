@@ -1,5 +1,5 @@
 -- The lines of a file's forms, form by form.
-use Rattle.std.specs.Prelude.{◌≡◌, refl, ℕ, ◌<◌, ◌≤◌, ◌+◌, List, [], ◌∷◌, ◌++◌, map, length, slice_get, Option, Some, codes}
+use Rattle.std.specs.Prelude.{◌≡◌, refl, ℕ, ◌<◌, ◌≤◌, ◌+◌, List, [], ◌∷◌, ◌++◌, map, length, slice_get, Some}
 use Rattle.std.specs.Option.{IsSomeAnd}
 use Rattle.std.proofs.Common.{ap, ap₂, ◌∙◌, sym, subst, drop, arith, slice_index_or, append_assoc, append-nil, length-append}
 use Rattle.std.proofs.lemmas.Grind.{flat_map-append}
@@ -11,9 +11,8 @@ use Rattle.pg_text.specs.declared.statement.Statement.TheVariants as statement
 use Rattle.pg_text.specs.declared.statement.Numbered.{Numbered}
 use Rattle.pg_text.specs.Contents.{Contents}
 use Rattle.pg_normal.specs.declared.normal.Normal.{Normal}
-use Rattle.pg_normal.specs.declared.normal.Origin.{Origin}
 use Rattle.pg_normal.specs.Forms.{Form}
-use Rattle.pg_normal.specs.Normals.{params_in, origin, origins_from, AreNormalsOf}
+use Rattle.pg_normal.specs.Normals.{params_in, origins_from, AreNormalsOf}
 use Rattle.pg_normal.specs.Listing.{params_lines, form_lines, normal_lines, normal_text}
 use Rattle.pg_normal.proofs.NamingLemmas.{next}
 use Rattle.pg_normal.proofs.ListingLemmas.{origin_of}
@@ -55,8 +54,16 @@ module _ (f : Contents) (x : Normal) (rest : List Normal) where
       record { before = before; here = record { line = n; statement = statement.Graph w e }; behind = left; statements = is; place = ap (λ o. o.statement) both.0; lines_are = refl; origins = both.1 }
   follows_from n (statement.Scenario w e bs) left later before is origins =
       let both = heads _ _ _ _ origins in
-      record { before = before; here = record { line = n; statement = statement.Scenario w e bs }; behind =
-          left; statements = is; place = ap (λ o. o.statement) both.0; lines_are = refl; origins = both.1 }
+      record {
+        before = before;
+        here = record { line = n; statement = statement.Scenario w e bs };
+        behind =
+            left;
+        statements = is;
+        place = ap (λ o. o.statement) both.0;
+        lines_are = refl;
+        origins = both.1;
+      }
 
   next_statement : (left : List Numbered) → Follows left
   next_statement [] before is origins = let e = ap length origins in absurd (omega (arith, e))

@@ -116,9 +116,9 @@ pub all_in_front : (f : Form) (n i u v : ℕ) → length f.arcs ≤ i → (in_fr
 all_in_front f n i u v past =
     ap (λ l. list_any (λ e. is_arc u v e.0) l && bit (arc_table f u v) n) (take_all i f.arcs past)
     ∙ all_there (list_any (λ e. is_arc u v e.0) f.arcs) (bit (arc_table f u v) n) (elim (zero_unless f.arcs u v) [
-  | inl listed ↦ inl listed
-  | inr zero ↦ inr (ap (λ w. bit w n) zero ∙ no_ones n)
-])
+      | inl listed ↦ inl listed
+      | inr zero ↦ inr (ap (λ w. bit w n) zero ∙ no_ones n)
+    ])
 
 pub has_with_arc : (arcs : List (OpId × OpId)) (u v a b : ℕ) → has_arc (with_arc arcs u v) a b ≡ (is_arc a b (u, v) || has_arc arcs a b)
 has_with_arc arcs u v a b = grind (arith, common_steps, nat_tests)

@@ -119,10 +119,13 @@ pub line_without_faults : (scope : Scope) (ss : List Numbered) (i : ℕ) (s : St
     → (line : ℕ) × (statement_faults line scope s ≡ []) × (faults_from (scope_after scope s) (drop (i + 1) ss) ≡ [])
 line_without_faults scope ss i s at none =
     let l = line_at ss i s at in
-    let split : statement_faults l.0.line scope l.0.statement ++ faults_from (scope_after scope l.0.statement) (drop (i + 1) ss) ≡ [] = sym (ap (faults_from scope) l.2) ∙ none in
-    (l.0.line, ap (statement_faults l.0.line scope) l.1
-        ∙ left_empty _ _ split, ap (λ t. faults_from (scope_after scope t) (drop (i + 1) ss)) l.1
-        ∙ right_empty (statement_faults l.0.line scope l.0.statement) _ split)
+    let split : statement_faults l.0.line scope l.0.statement ++ faults_from (scope_after scope l.0.statement) (drop (i + 1) ss) ≡ [] = sym (ap (faults_from scope) l.2) ∙ none in (
+      l.0.line,
+      ap (statement_faults l.0.line scope) l.1
+          ∙ left_empty _ _ split,
+      ap (λ t. faults_from (scope_after scope t) (drop (i + 1) ss)) l.1
+          ∙ right_empty (statement_faults l.0.line scope l.0.statement) _ split,
+    )
 
 -- ---- parameters of all lines
 
@@ -146,7 +149,7 @@ pub count_params : (ss : List Numbered) (scope : Scope) → length (scope_from s
 count_params [] scope = omega arith
 count_params (n ∷ ss) scope = count_params ss (scope_after scope n.statement) ∙ ap (λ m. m + count_of counted.Params ss) (more_params n.statement scope)
     ∙ three (length scope.params) (count_in counted.Params n.statement) (count_of counted.Params ss)
-        ∙ ap (λ m. length scope.params + m) (sym (sum_by-cons (λ s. count_in counted.Params s.statement) n ss))
+    ∙ ap (λ m. length scope.params + m) (sym (sum_by-cons (λ s. count_in counted.Params s.statement) n ss))
   where
     three : (a b c : ℕ) → (a + b) + c ≡ a + (b + c)
     three a b c = omega arith

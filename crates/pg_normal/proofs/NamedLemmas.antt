@@ -39,11 +39,11 @@ at_cons x other ns y ts =
     (cond (nat_lt (cond (not b) (1 + position_or_len (bytes_eq other) ns) 0) (length (x ∷ ns)))
     (Some (cond (not b) (1 + position_or_len (bytes_eq other) ns) 0)) None) ≡ cond b (Some y)
     (tables_at ts (place_of ns other))) [
-  | true ↦ ap (λ b. tables_at (y ∷ ts) (cond b (Some 0) None)) (some_more (length ns)) ∙ first y ts
-  | false ↦ ap (λ b. tables_at (y ∷ ts) (cond b (Some (1 + position_or_len (bytes_eq other) ns)) None))
-      (both_more (position_or_len (bytes_eq other) ns) (length ns))
-      ∙ later y ts (nat_lt (position_or_len (bytes_eq other) ns) (length ns)) (position_or_len (bytes_eq other) ns)
-]
+      | true ↦ ap (λ b. tables_at (y ∷ ts) (cond b (Some 0) None)) (some_more (length ns)) ∙ first y ts
+      | false ↦ ap (λ b. tables_at (y ∷ ts) (cond b (Some (1 + position_or_len (bytes_eq other) ns)) None))
+          (both_more (position_or_len (bytes_eq other) ns) (length ns))
+          ∙ later y ts (nat_lt (position_or_len (bytes_eq other) ns) (length ns)) (position_or_len (bytes_eq other) ns)
+    ]
 
 swap : {A : Type 0} (a b : Bool) (x y z : A) → (a ≡ true → b ≡ true → ⊥) → cond a x (cond b y z) ≡ cond b y (cond a x z)
 swap true true x y z apart = absurd (apart refl refl)

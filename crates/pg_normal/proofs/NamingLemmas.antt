@@ -1,5 +1,5 @@
 -- Faults of names, part by part.
-use Rattle.std.specs.Prelude.{◌≡◌, ◌⊎◌, refl, ℕ, ◌<◌, ◌+◌, false, List, [], ◌∷◌, ◌++◌, map, length, slice_get, Option, Some, None, is_some}
+use Rattle.std.specs.Prelude.{◌≡◌, ◌⊎◌, refl, ℕ, ◌<◌, ◌+◌, false, List, [], ◌∷◌, ◌++◌, map, length, slice_get, Some, is_some}
 use Rattle.std.specs.List.{flat_map}
 use Rattle.std.proofs.Common.{ap, ◌∙◌, sym, subst, get_or, slice_index_or, drop, suc, add-one, inl, inr}
 use Rattle.std.proofs.Math.Seq.{drop-cons}

@@ -54,7 +54,7 @@ denoted_closed count x sc k d left =
 
 module _ (params : List (List ℕ)) (before : Before) (e : Expr) (bindings : List (List ℕ × Bool)) (x : Stated) (one : Normal) (is : IsNormal params before e bindings one)
     (graph : (n : ℕ) → x.graph n ≡ graph_of (before.graphs n) (valuation params n) e) (fixed : (k : ℕ) →
-        x.fixed k ≡ binds params bindings k) (values : (k : ℕ) → x.values k ≡ binds_one params bindings k) where
+    x.fixed k ≡ binds params bindings k) (values : (k : ℕ) → x.values k ≡ binds_one params bindings k) where
   agrees : (n : ℕ) → AgreesWith x n → Agrees one.binding.fixed one.binding.values n
   agrees n a k l held = a k l (fixed k ∙ sym (is.binding.fixed k) ∙ held) ∙ values k ∙ sym (is.binding.values k)
 

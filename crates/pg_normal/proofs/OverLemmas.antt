@@ -53,8 +53,8 @@ tables_are_over count known e t all vertices square graph order = record {
   second = λ u v n h held. ap (λ g. g.vertex v) (graph n h) ∙ (end n h u v held).1;
   listed = λ v n h held. ap (λ vs. has vs v) order ∙ listed [] (appearing (orders_known known) e) v
       (appears (graphs_known known n) (valuation known.params n) (orders_known known)
-          (λ name w there. lists-option count n h (tables_named known name)
-          (λ x is. known_is_over count known name x all is) w there) e v
+      (λ name w there. lists-option count n h (tables_named known name)
+      (λ x is. known_is_over count known name x all is) w there) e v
       (sym (ap (λ g. g.vertex v) (graph n h)) ∙ held));
 }
   where

@@ -1,5 +1,5 @@
 -- What the statements of a file say of its scenarios: how many they are, their names, and their forms.
-use Rattle.std.specs.Prelude.{◌≡◌, refl, ℕ, ◌<◌, ◌≤◌, ◌+◌, Bool, List, [], ◌∷◌, ◌++◌, length, map}
+use Rattle.std.specs.Prelude.{◌≡◌, refl, ℕ, ◌+◌, Bool, List, [], ◌∷◌, ◌++◌, length, map}
 use Rattle.std.proofs.Common.{ap, ◌∙◌, sym, subst, arith, append_assoc, append-nil}
 use Rattle.std.proofs.lemmas.List.Sums.{sum_by-cons}
 use Rattle.cpog_base.specs.declared.limits.Counted.TheVariants as counted
@@ -45,8 +45,8 @@ module _ (params : List (List ℕ)) where
       ((sc : Scope) → (scope_from sc ss).scenarios ≡ sc.scenarios ++ map name_of (stated_from params before ss)) →
       (scope : Scope) (earlier : Before) (line : ℕ) (s : Statement)
       → before ≡ with_statement params earlier s →
-          (scope_from (scope_after scope s) ss).scenarios ≡ scope.scenarios ++ map name_of
-          (stated params earlier line s ++ stated_from params (with_statement params earlier s) ss)
+      (scope_from (scope_after scope s) ss).scenarios ≡ scope.scenarios ++ map name_of
+      (stated params earlier line s ++ stated_from params (with_statement params earlier s) ss)
   names_behind before ss later scope earlier line (statement.Params names) is =
       later (scope_after scope (statement.Params names))
       ∙ ap (λ b. scope.scenarios ++ map name_of (stated_from params b ss)) is
@@ -100,8 +100,8 @@ module _ (params : List (List ℕ)) (ss : List Numbered) (place : ℕ) where
       let both = heads _ _ _ _ (ap (map origin_of) (sym are.whole) ∙ origins) in
       subst (λ zs. AreFormsFor params zs (stated_from params (with_statement params before (statement.Graph name e)) ss)) (sym are.whole)
       (subst (λ k. IsNext params k (stated_from params
-          (with_statement params before (statement.Graph name e)) ss) are.one (AreFormsFor params are.more))
-          (sym (ap (λ o. o.kind) both.0)) (later are.more are.rest both.1))
+      (with_statement params before (statement.Graph name e)) ss) are.one (AreFormsFor params are.more))
+      (sym (ap (λ o. o.kind) both.0)) (later are.more are.rest both.1))
   forms_behind before line (statement.Scenario name e bindings) later ys are origins =
       let both = heads _ _ _ _ (ap (map origin_of) (sym are.whole) ∙ origins) in
       let xs = stated params before line (statement.Scenario name e bindings) ++ stated_from params before ss in

@@ -114,8 +114,14 @@ module _ (count : ℕ) (f : Contents) (known : Known) (i : ℕ) (xs : List Norma
       orders = λ j other. (orders other ∙ ap (λ o. cond (bytes_eq other name) (first_appearing o e) (o other)) at.orders) j;
       forms =
           λ rest h. listed x rest (forms_after count f known i xs at (statement.Graph name e) at_s (x ∷ rest)
-          (record { one = x; more = rest; whole = refl; is = record
-          { form = form_before e x form; binding = binding }; rest = h }));
+          (record {
+            one = x;
+            more = rest;
+            whole = refl;
+            is = record
+                { form = form_before e x form; binding = binding };
+            rest = h;
+          }));
     }
 
   module _ (name : List ℕ) (e : Expr) (bindings : List (List ℕ × Bool)) (at_s : IsSomeAnd (slice_get f.statements i) (λ n. statement.Scenario name e bindings ≡ n.statement)) where
@@ -144,7 +150,12 @@ module _ (count : ℕ) (f : Contents) (known : Known) (i : ℕ) (xs : List Norma
       origins = origins_added count f known i xs at (statement.Scenario name e bindings) at_s n x _ at_n origin_is refl;
       forms =
           λ rest h. listed x rest (forms_after count f known i xs at (statement.Scenario name e bindings) at_s
-          (x ∷ rest) (record { one = x; more = rest; whole = refl; is = record
-          { form = form_before e x form; binding = subst (λ ps. IsBinding ps bindings x.binding) at.params binding };
-          rest = h }));
+          (x ∷ rest) (record {
+            one = x;
+            more = rest;
+            whole = refl;
+            is = record
+                { form = form_before e x form; binding = subst (λ ps. IsBinding ps bindings x.binding) at.params binding };
+            rest = h;
+          }));
     }

@@ -77,8 +77,8 @@ module _ (names params : List (List ℕ)) where
       let line : Normal → List ℕ = λ x. definition_text (codes "scenario ") w (form_text x.form names params) ++ with_text bs in
       ap (first_line line rest) hx.whole
       ∙ ap₂ (λ t ls. (definition_text (codes "scenario ") w t ++ with_text bs) ∷ ls)
-          (one_form_text names params _ _ hx.one.form hy.one.form hx.is.form hy.is.form)
-          (same hx.more hy.more hx.rest hy.rest)
+      (one_form_text names params _ _ hx.one.form hy.one.form hx.is.form hy.is.form)
+      (same hx.more hy.more hx.rest hy.rest)
       ∙ sym (ap (first_line line rest) hy.whole)
 
   same_lines : (ss : List Numbered) (before : Before) (xs ys : List Normal) → AreNormals params before ss xs →
@@ -86,8 +86,8 @@ module _ (names params : List (List ℕ)) where
   same_lines [] before xs ys hx hy = refl
   same_lines (s ∷ ss) before xs ys hx hy =
       statement_same s.statement before (AreNormals params (with_statement params before s.statement) ss)
-          (normal_lines names params ss) (λ ps qs. same_lines ss
-          (with_statement params before s.statement) ps qs) xs ys hx hy
+      (normal_lines names params ss) (λ ps qs. same_lines ss
+      (with_statement params before s.statement) ps qs) xs ys hx hy
 
 -- a file has one text of forms
 pub one_normal_text : (f : Contents) (xs ys : List Normal) → AreNormalsOf f xs → AreNormalsOf f ys → normal_text f xs ≡ normal_text f ys

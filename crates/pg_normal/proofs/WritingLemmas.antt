@@ -51,8 +51,8 @@ written_sum start f g vs a b n first second ea eb en none terms =
     let others = rest_text (codes " + ") (flat_map (g vs) vs) in
     ap (λ xs. second ++ rest_text (codes " + ") (flat_map (g xs) xs)) eb
     ∙ ap (λ o. o ++ others) (terms ∙ ap (λ xs. first ++ row_text (codes " + ") (map f xs)) ea
-        ∙ ap (λ o. o ++ front) (none ∙ ap (λ k. start ++ when_needed (k == 0) (codes "empty")) en)
-        ∙ append_assoc start word front)
+    ∙ ap (λ o. o ++ front) (none ∙ ap (λ k. start ++ when_needed (k == 0) (codes "empty")) en)
+    ∙ append_assoc start word front)
     ∙ append_assoc start (word ++ front) others ∙ ap (λ t. start ++ t) (sum_parts f (g vs) vs)
 
 -- ---- the tests

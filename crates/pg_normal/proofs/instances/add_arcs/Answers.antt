@@ -22,14 +22,14 @@ overflow_cast-v c =
 pub add_arc-requires-clause-first : goal.add_arc-requires-clause-first
 add_arc-requires-clause-first c = ap (λ ops. set.contains ops c.arc_ends-u.result.0) c.arcs.invariant.ops ∙ c.requires.ops c.arc_ends-u.result.0
     ∙ (arc_has_ends c.args.form.now c.arc_ends-u.result.0 c.arc_ends-u.result.1 c.args.n c.arcs-i-end.ensures.form
-        c.requires.valuation (ap (λ t. bit t c.args.n) (sym c.arc_table.ensures) ∙ sym c.value_at.ensures
-        ∙ c.if-value_at.true)).0
+    c.requires.valuation (ap (λ t. bit t c.args.n) (sym c.arc_table.ensures) ∙ sym c.value_at.ensures
+    ∙ c.if-value_at.true)).0
 
 pub add_arc-requires-clause-second : goal.add_arc-requires-clause-second
 add_arc-requires-clause-second c = ap (λ ops. set.contains ops c.arc_ends-u.result.1) c.arcs.invariant.ops ∙ c.requires.ops c.arc_ends-u.result.1
     ∙ (arc_has_ends c.args.form.now c.arc_ends-u.result.0 c.arc_ends-u.result.1 c.args.n c.arcs-i-end.ensures.form
-        c.requires.valuation (ap (λ t. bit t c.args.n) (sym c.arc_table.ensures) ∙ sym c.value_at.ensures
-        ∙ c.if-value_at.true)).1
+    c.requires.valuation (ap (λ t. bit t c.args.n) (sym c.arc_table.ensures) ∙ sym c.value_at.ensures
+    ∙ c.if-value_at.true)).1
 
 pub arcs-preserved : goal.arcs-preserved
 arcs-preserved c = elim c.if-value_at.branch [

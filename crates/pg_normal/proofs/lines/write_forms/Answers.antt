@@ -1,5 +1,5 @@
 use Rattle.std.specs.Prelude.{◌<◌, ◌≤◌, ◌++◌, length, refl}
-use Rattle.std.proofs.Common.{ap, ◌∙◌, subst, arith, slice_index_or}
+use Rattle.std.proofs.Common.{ap, ◌∙◌, subst, slice_index_or}
 use Rattle.line_text.specs.Lines.{text_of}
 use Rattle.pg_normal.specs.Listing.{params_lines}
 use Rattle.pg_normal.proofs.LineLemmas.{written_first, written_last, statement_within, written_more}
