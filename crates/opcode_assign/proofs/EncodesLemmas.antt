@@ -21,7 +21,7 @@ use Rattle.cpog_merge.proofs.AgreeLemmas.{graph_by_class_lem}
 pub by_class_encodes : (count bits : ℕ) (orders : List Order) (patterns : List (List Bit3)) (t : Columns)
     (list : Classes) (refs : List Ref) (e : Encoding)
     → ((f : Encoding) → IsEncoding count f → Fits f orders ↔ AgreesWith f t) → t.scenarios ≡ length orders →
-        t.count ≡ count → AreClassesOf t list
+    t.count ≡ count → AreClassesOf t list
     → e.gates.inputs ≡ bits → AreCodes bits (length orders) e.codes → KeepGivenBits patterns e.codes → IsEncoding count e
     → ReferencesServe list.columns e.codes e.gates refs → IsGraphByClass count list refs e.graph
     → Encodes count orders patterns bits e
@@ -47,10 +47,10 @@ first_from codes count bits orders patterns e least on = record {
 pub assignment_on : (codes : List ℕ) (count bits n : ℕ) (orders : List Order) (t : Columns) (list : Classes)
     (refs : List Ref) (e : Encoding)
     → AreCodes bits n codes → e.codes ≡ codes → e.gates.inputs ≡ bits → IsGateList e.gates → t.count ≡ count →
-        AreColumnsOf orders t → AreClassesOf t list
+    AreColumnsOf orders t → AreClassesOf t list
     → IsFirstEncoding codes bits list.columns (record { codes = e.codes; gates = e.gates; refs = refs })
     → IsGraph list.count (signal_count e.gates) e.graph → IsGraphByClass list.count list refs e.graph →
-        IsAssignmentOn codes count orders bits e
+    IsAssignmentOn codes count orders bits e
 assignment_on codes count bits n orders t list refs e are same inputs gates count_is columns classes first graph conditions =
     let whole : list.count ≡ count = classes.count ∙ count_is in record {
       encoding = record {
