@@ -83,8 +83,8 @@ pub record SpeaksOf (wires : List Wire) (e : Equation) : Type 0 where
   pub read : ReadsOnly (Contains wires) e.formula
   pub named : NamesOnly (Contains wires) e.comment
 
--- each wire is declared once; the inner ones and the outputs are assigned, once each and in this order, and no input is;
--- each equation speaks of inputs and earlier inner wires alone
+-- each wire is declared once; the inner ones and the outputs are assigned, once each and in this order, and no input
+-- is; each equation speaks of inputs and earlier inner wires alone
 pub record HasOneDriverEach (m : ModuleValue) : Type 0 where
   pub declared_once : AllPairs (λ w z. w ≢ z)
       (input_wires m.netlist ++ (output_wires m.netlist ++ inner_wires m.netlist))

@@ -46,8 +46,8 @@ IsBound gates Unknown = 0 < gates
 abbrev pub report_gate_limit : ℕ
 report_gate_limit = 65536
 
--- 1 to 8 bits, a budget that may be said, at most 64 operations, 1 to 64 scenarios with a name and a code each, few gates,
--- and the netlist of the encoding
+-- 1 to 8 bits, a budget that may be said, at most 64 operations, 1 to 64 scenarios with a name and a code each, few
+-- gates, and the netlist of the encoding
 pub record IsReport (r : ReportValue) : Type 0 where
   pub some_bit : 1 ≤ r.bits
   pub few_bits : r.bits ≤ BIT_LIMIT
