@@ -15,8 +15,8 @@ use Rattle.cpog_defs.specs.Entries.{entry_at}
 use Rattle.cpog_base.specs.Column.{is_one, is_zero}
 use Rattle.gate_core.specs.Columns.{smaller_set}
 use Rattle.cpog_defs.specs.Codes.{bit}
-use Rattle.gate_core.specs.First.{only_at, same_gate, Reached, with_gate, minterm, minterms, joined, sum_of_minterms, code_at, codes_where, has_fewer_zeros, smaller_codes, Takes, TakesAll, joins_of, all_joins, FirstEncoding, IsFirstEncoding, HasFewGates}
-use Rattle.gate_core.specs.Words.{IsEncodable}
+use Rattle.gate_core.specs.First.{only_at, same_gate, Reached, with_gate, minterm, minterms, joined, sum_of_minterms, code_at, codes_where, has_fewer_zeros, smaller_codes, Takes, TakesAll, shared_gates, joins_of, all_joins, FirstEncoding, IsFirstEncoding, HasFewGates}
+use Rattle.gate_core.specs.Words.{IsColumnOnCodes}
 use Rattle.gate_core.proofs.ExtendLemmas.{Extends, extends_self, extends_trans, extends_last, with_last, same_gates, with_gate-there, with_gate-new, with_gate-signal}
 use Rattle.gate_core.proofs.MintermLemmas.{or_gate}
 use Rattle.gate_core.proofs.TakeLemmas.{IsCodeBelow, passing_codes, length-codes, two_inputs, taken, all_taken}
@@ -30,7 +30,10 @@ with_gate_extends list gate = elim (cases_Bool (list_any (same_gate gate) list.g
 ]
 
 same_itself : (gate : Gate) → same_gate gate gate ≡ true
-same_itself gate = and_from ((gate.j == gate.j) && (gate.k == gate.k)) (gate.table == gate.table) (and_from (gate.j == gate.j) (gate.k == gate.k) (eq-eqb gate.j gate.j refl) (eq-eqb gate.k gate.k refl)) (eq-eqb gate.table gate.table refl)
+same_itself gate =
+    and_from ((gate.j == gate.j) && (gate.k == gate.k)) (gate.table == gate.table)
+    (and_from (gate.j == gate.j) (gate.k == gate.k) (eq-eqb gate.j gate.j refl) (eq-eqb gate.k gate.k refl))
+    (eq-eqb gate.table gate.table refl)
 
 module _ {X : Type 0} (p : X → Bool) where
   there_left : (xs ys : List X) → list_any p xs ≡ true → list_any p (xs ++ ys) ≡ true
@@ -51,7 +54,9 @@ abbrev reached : GateList → ℕ → Reached
 reached gates signal = record { gates = gates; signal = signal }
 
 -- once a gate is there, it changes nothing, however many gates stand behind it
-again_there : (list after : GateList) (gate : Gate) → list_any (same_gate gate) list.gates ≡ true → Extends list after → with_gate after gate ≡ reached after (list.inputs + position_or_len (same_gate gate) list.gates)
+again_there : (list after : GateList) (gate : Gate) → list_any (same_gate gate) list.gates ≡ true →
+    Extends list after → with_gate after gate ≡ reached after
+    (list.inputs + position_or_len (same_gate gate) list.gates)
 again_there list after gate there x =
     let still : list_any (same_gate gate) after.gates ≡ true = ap (list_any (same_gate gate)) x.gates ∙ there_left (same_gate gate) list.gates x.more there in
     ap₂ reached (with_gate-there after gate still)
@@ -61,7 +66,9 @@ pub with_gate_again : (list after : GateList) (gate : Gate) → Extends (with_ga
 with_gate_again list after gate x = elim (cases_Bool (list_any (same_gate gate) list.gates)) [
   | inl there ↦ again_there list after gate there (subst (λ g. Extends g after) (with_gate-there list gate there) x) ∙ ap (reached after) (sym (with_gate-signal list gate))
   | inr new ↦
-      again_there (with_last list gate) after gate (list_any-append (same_gate gate) list.gates (gate ∷ []) ∙ or_right _ _ (or_left _ _ (same_itself gate))) (subst (λ g. Extends g after) (with_gate-new list gate new) x)
+      again_there (with_last list gate) after gate (list_any-append (same_gate gate) list.gates (gate ∷ [])
+      ∙ or_right _ _ (or_left _ _ (same_itself gate)))
+      (subst (λ g. Extends g after) (with_gate-new list gate new) x)
       ∙ ap (reached after) (ap (λ n. list.inputs + n) (place_pushed (same_gate gate) list.gates gate (same_itself gate)) ∙ sym (with_gate-signal list gate))
 ]
 
@@ -200,7 +207,9 @@ pub joined_holds : (one : Reached) (others : ℕ) (ms : List ℕ) → Holds one.
 unfolding joined
 joined_holds one others [] h = holds_more one.gates others (others + 0) (omega arith) h
 joined_holds one others (m ∷ ms) h =
-    holds_more _ (others + 1 + length ms) (others + suc (length ms)) (omega arith) (joined_holds (with_gate one.gates (or_gate one.signal m)) (others + 1) ms (with_gate_holds_one one.gates others (or_gate one.signal m) h))
+    holds_more _ (others + 1 + length ms) (others + suc (length ms)) (omega arith)
+    (joined_holds (with_gate one.gates (or_gate one.signal m)) (others + 1) ms
+    (with_gate_holds_one one.gates others (or_gate one.signal m) h))
 
 pub joined_extends : (one : Reached) (ms : List ℕ) → Extends one.gates (joined one ms).gates
 unfolding joined
@@ -254,13 +263,18 @@ pub record Bounded (codes : List ℕ) (list : GateList) (joins : ℕ) : Type 0 w
 -- further gates keep the minterms that are there
 pub bounded_behind : (codes : List ℕ) (a b : GateList) (joins more : ℕ) → Extends a b → Holds b ((a.inputs - 2) * done_count codes a + joins + more) → Bounded codes b (joins + more)
 bounded_behind codes a b joins more x h = record {
-  holds = holds_more b _ _ (total (a.inputs - 2) (b.inputs - 2) (done_count codes a) (done_count codes b) (ap (λ k. k - 2) x.inputs) (more_pass (done_at codes a) (done_at codes b) (λ s. done_stays a b x (code_at codes s)) (length codes))) h;
+  holds =
+      holds_more b _ _ (total (a.inputs - 2) (b.inputs - 2) (done_count codes a) (done_count codes b)
+      (ap (λ k. k - 2) x.inputs) (more_pass (done_at codes a) (done_at codes b)
+      (λ s. done_stays a b x (code_at codes s)) (length codes))) h;
 }
   where
     total : (k l p q : ℕ) → l ≡ k → p ≤ q → k * p + joins + more ≤ l * q + (joins + more)
     total k l p q e m = rw e (omega (arith, mul-le-mul_left k m))
 
-pub minterm_bounded : (codes : List ℕ) (list : GateList) (joins s : ℕ) → 2 ≤ list.inputs → IsCodeBelow codes (length codes) s → Bounded codes list joins → Bounded codes (minterm list s (list.inputs - 2)).gates joins
+pub minterm_bounded : (codes : List ℕ) (list : GateList) (joins s : ℕ) → 2 ≤ list.inputs →
+    IsCodeBelow codes (length codes) s → Bounded codes list joins →
+    Bounded codes (minterm list s (list.inputs - 2)).gates joins
 minterm_bounded codes list joins s two l h = elim (cases_Bool (is_done list s)) [
   | inl there ↦ subst (λ g. Bounded codes g joins) (sym (done_tells list s there)) h
   | inr new ↦
@@ -270,14 +284,18 @@ minterm_bounded codes list joins s two l h = elim (cases_Bool (is_done list s)) 
       let more = one_more_passes (done_at codes list) (done_at codes after) (λ i. done_stays list after x (code_at codes i)) (length codes) l.0 l.1 (ap (is_done list) l.2 ∙ new)
       (ap (is_done after) l.2 ∙ done_behind list after s (extends_self after) x.inputs) in
       record {
-        holds = holds_more after _ _ (total k (after.inputs - 2) (done_count codes list) (done_count codes after) (ap (λ i. i - 2) x.inputs) more) (minterm_holds list (k * done_count codes list + joins) s k two h.holds);
+        holds =
+            holds_more after _ _ (total k (after.inputs - 2) (done_count codes list) (done_count codes after)
+            (ap (λ i. i - 2) x.inputs) more) (minterm_holds list (k * done_count codes list + joins) s k two h.holds);
       }
 ]
   where
     total : (k l p q : ℕ) → l ≡ k → p + 1 ≤ q → k * p + joins + k ≤ l * q + joins
     total k l p q e m = rw e (omega (arith, mul-le-mul_left k m))
 
-pub minterms_bounded : (codes : List ℕ) (list : GateList) (joins : ℕ) (ss : List ℕ) → 2 ≤ list.inputs → AllByRecursion (IsCodeBelow codes (length codes)) ss → Bounded codes list joins → Bounded codes (minterms list ss).gates joins
+pub minterms_bounded : (codes : List ℕ) (list : GateList) (joins : ℕ) (ss : List ℕ) → 2 ≤ list.inputs →
+    AllByRecursion (IsCodeBelow codes (length codes)) ss → Bounded codes list joins →
+    Bounded codes (minterms list ss).gates joins
 unfolding minterms
 minterms_bounded codes list joins [] two below h = h
 minterms_bounded codes list joins (s ∷ ss) two below h =
@@ -289,7 +307,9 @@ unfolding minterms
 length-minterms list [] = refl
 length-minterms list (s ∷ ss) = omega (arith, length-minterms (minterm list s (list.inputs - 2)).gates ss)
 
-pub sum_bounded : (codes : List ℕ) (list : GateList) (joins : ℕ) (ss : List ℕ) → 2 ≤ list.inputs → AllByRecursion (IsCodeBelow codes (length codes)) ss → Bounded codes list joins → Bounded codes (sum_of_minterms list ss).gates (joins + (length ss - 1))
+pub sum_bounded : (codes : List ℕ) (list : GateList) (joins : ℕ) (ss : List ℕ) → 2 ≤ list.inputs →
+    AllByRecursion (IsCodeBelow codes (length codes)) ss → Bounded codes list joins →
+    Bounded codes (sum_of_minterms list ss).gates (joins + (length ss - 1))
 unfolding sum_of_minterms
 sum_bounded codes list joins [] two below h = record { holds = holds_more list _ _ (omega arith) h.holds }
 sum_bounded codes list joins (s ∷ ss) two below h =
@@ -314,7 +334,9 @@ bounded_more codes list a b l h = record { holds = holds_more list _ _ (omega (a
 length-smaller : (codes : List ℕ) (column : List Bit3) → length (smaller_codes codes column) ≡ smaller_set column
 length-smaller codes column = by (has_fewer_zeros column) refl
   where
-    by : (b : Bool) → nat_lt (count_by is_zero column) (count_by is_one column) ≡ b → length (if b then codes_where is_zero codes column else codes_where is_one codes column) ≡ min (count_by is_one column) (count_by is_zero column)
+    by : (b : Bool) → nat_lt (count_by is_zero column) (count_by is_one column) ≡ b →
+        length (if b then codes_where is_zero codes column
+        else codes_where is_one codes column) ≡ min (count_by is_one column) (count_by is_zero column)
     by true e = length-codes is_zero codes column ∙ least (count_by is_zero column) (count_by is_one column) e
       where
         least : (m n : ℕ) → nat_lt m n ≡ true → m ≡ min n m
@@ -331,7 +353,7 @@ smaller_are_codes codes column e = subst (λ n. AllByRecursion (IsCodeBelow code
     by true = passing_codes (λ s. is_zero (entry_at column s)) codes (length column)
     by false = passing_codes (λ s. is_one (entry_at column s)) codes (length column)
 
-pub takes_bounded : (codes : List ℕ) (before : GateList) (joins : ℕ) (column : List Bit3) → 1 ≤ before.inputs → IsEncodable codes before.inputs column → Bounded codes before joins →
+pub takes_bounded : (codes : List ℕ) (before : GateList) (joins : ℕ) (column : List Bit3) → 1 ≤ before.inputs → IsColumnOnCodes codes before.inputs column → Bounded codes before joins →
     (after : GateList) (ref : Ref) (t : Takes codes before column after ref) → Bounded codes after (joins + joins_of codes before column after ref t)
 takes_bounded codes before joins column some enc h after ref t = elim t as (λ u. Bounded codes after (joins + joins_of codes before column after ref u)) [
   | inl a ↦ subst (λ g. Bounded codes g (joins + 0)) (sym a.gates) (bounded_more codes before joins _ (omega arith) h)
@@ -344,7 +366,8 @@ takes_bounded codes before joins column some enc h after ref t = elim t as (λ u
   ]
 ]
 
-pub takes_all_bounded : (codes : List ℕ) (before : GateList) (joins : ℕ) → IsGateList before → 1 ≤ before.inputs → Bounded codes before joins → (columns : List (List Bit3)) → All (IsEncodable codes before.inputs) columns →
+pub takes_all_bounded : (codes : List ℕ) (before : GateList) (joins : ℕ) → IsGateList before → 1 ≤ before.inputs →
+    Bounded codes before joins → (columns : List (List Bit3)) → All (IsColumnOnCodes codes before.inputs) columns →
     (after : GateList) (refs : List Ref) (t : TakesAll codes before columns after refs) → Bounded codes after (joins + all_joins codes before columns after refs t)
 takes_all_bounded codes before joins ok some h [] enc after refs t = subst (λ g. Bounded codes g (joins + 0)) (sym t.0) (bounded_more codes before joins (joins + 0) (omega arith) h)
 takes_all_bounded codes before joins ok some h (column ∷ columns) enc after refs t =
@@ -352,7 +375,10 @@ takes_all_bounded codes before joins ok some h (column ∷ columns) enc after re
     let one = taken codes before column ok some (enc 0 column (omega arith)) between t.1 t.4 in
     let b = takes_bounded codes before joins column some (enc 0 column (omega arith)) h between t.1 t.4 in
     bounded_more codes after _ _ (omega arith)
-    (takes_all_bounded codes between (joins + joins_of codes before column between t.1 t.4) one.gates (omega (arith, one.extends.inputs)) b columns (λ k d l. subst (λ i. IsEncodable codes i (slice_index_or columns k d)) (sym one.extends.inputs) (enc (suc k) d (omega arith))) after t.2 t.5)
+    (takes_all_bounded codes between (joins + joins_of codes before column between t.1 t.4) one.gates
+    (omega (arith, one.extends.inputs)) b columns
+    (λ k d l. subst (λ i. IsColumnOnCodes codes i (slice_index_or columns k d)) (sym one.extends.inputs)
+    (enc (suc k) d (omega arith))) after t.2 t.5)
 
 -- ---- gates over two inputs
 
@@ -424,9 +450,14 @@ pairs_counted m n (g ∷ gates) l ok none = by (nat_lt g.k m) refl (pairs_counte
 
 -- ---- the whole
 
-pub few_gates : (codes : List ℕ) (list : GateList) (joins : ℕ) → length codes ≤ 64 → IsGateList list → list.inputs ≤ 8 → Bounded codes list joins → length list.gates ≤ 832 + joins
+pub few_gates : (codes : List ℕ) (list : GateList) (joins : ℕ) → length codes ≤ 64 → IsGateList list → list.inputs ≤ 8 → Bounded codes list joins → length list.gates ≤ shared_gates + joins
 few_gates codes list joins few ok eight h =
-    let pairs : pair_gates list.inputs list.gates ≤ 448 = omega (arith, pairs_counted list.inputs list.inputs list.gates eight ok h.holds.none_twice, how_many-le (has_row list.inputs list.gates) 448) in
+    let pairs : pair_gates list.inputs list.gates ≤ 448 =
+    omega (
+      arith,
+      pairs_counted list.inputs list.inputs list.gates eight ok h.holds.none_twice,
+      how_many-le (has_row list.inputs list.gates) 448,
+    ) in
     omega (arith, pairs, pairs_and_others list.inputs list.gates, h.holds.few, product (list.inputs - 2) (done_count codes list) (omega arith) at_most)
   where
     at_most : done_count codes list ≤ 64
@@ -440,12 +471,16 @@ unfolding other_gates
 nothing_bounded codes list none = record { holds = record { none_twice = subst NoneTwice (sym none) tt; few = omega (arith, ap (other_gates list.inputs) none) } }
 
 -- the gates of columns that begin with none
-pub whole_bounded : (codes : List ℕ) (before : GateList) → length codes ≤ 64 → before.gates ≡ [] → 1 ≤ before.inputs → before.inputs ≤ 8 → (columns : List (List Bit3)) → All (IsEncodable codes before.inputs) columns →
-    (after : GateList) (refs : List Ref) (t : TakesAll codes before columns after refs) → length after.gates ≤ 832 + all_joins codes before columns after refs t
+pub whole_bounded : (codes : List ℕ) (before : GateList) → length codes ≤ 64 → before.gates ≡ [] → 1 ≤ before.inputs →
+    before.inputs ≤ 8 → (columns : List (List Bit3)) → All (IsColumnOnCodes codes before.inputs) columns →
+    (after : GateList) (refs : List Ref) (t : TakesAll codes before columns after refs) → length after.gates ≤ shared_gates + all_joins codes before columns after refs t
 whole_bounded codes before few none some eight columns enc after refs t =
     let ok : IsGateList before = subst (AreGatesFrom before.inputs) (sym none) tt in
     let all = all_taken codes before ok some columns enc after refs t in
-    let bound = few_gates codes after (0 + all_joins codes before columns after refs t) few all.gates (omega (arith, all.extends.inputs)) (takes_all_bounded codes before 0 ok some (nothing_bounded codes before none) columns enc after refs t) in
+    let bound =
+    few_gates codes after (0 + all_joins codes before columns after refs t) few all.gates
+    (omega (arith, all.extends.inputs)) (takes_all_bounded codes before 0 ok some
+    (nothing_bounded codes before none) columns enc after refs t) in
     omega (arith, bound)
 
 -- where every column needed minterms, there would be as many
@@ -466,7 +501,9 @@ joins_are_few codes before (column ∷ columns) after refs t = omega (
     ]
 
 -- so at most 2 ^ 24 columns leave room for one more among the signals of 32-bit numbers
-pub few_in_all : (codes : List ℕ) (before : GateList) → length codes ≤ 64 → before.gates ≡ [] → 1 ≤ before.inputs → before.inputs ≤ 8 → (columns : List (List Bit3)) → All (IsEncodable codes before.inputs) columns → length columns ≤ 16777216 →
+pub few_in_all : (codes : List ℕ) (before : GateList) → length codes ≤ 64 → before.gates ≡ [] → 1 ≤ before.inputs →
+    before.inputs ≤ 8 → (columns : List (List Bit3)) → All (IsColumnOnCodes codes before.inputs) columns →
+    length columns ≤ 16777216 →
     (after : GateList) (refs : List Ref) → TakesAll codes before columns after refs → length after.gates < 2 ^ 30
 few_in_all codes before few none some eight columns enc l after refs t = omega (
   arith,
@@ -480,8 +517,8 @@ few_in_all codes before few none some eight columns enc l after refs t = omega (
     small column m = omega (arith, m, count_by-le-length is_one column)
 
 pub few_by_smaller : (codes : List ℕ) (bits : ℕ) (columns : List (List Bit3)) (e : FirstEncoding) → IsFirstEncoding codes bits columns e → HasFewGates codes bits columns e →
-    length e.gates.gates ≤ 832 + sum_by (λ column. smaller_set column - 1) columns
+    length e.gates.gates ≤ shared_gates + sum_by (λ column. smaller_set column - 1) columns
 few_by_smaller codes bits columns e first few =
     let start : GateList = record { inputs = bits; gates = [] } in
-    let made : length e.gates.gates ≤ 832 + all_joins codes start columns e.gates e.refs first.refs = few first in
+    let made : length e.gates.gates ≤ shared_gates + all_joins codes start columns e.gates e.refs first.refs = few first in
     omega (arith, made, joins_are_few codes start columns e.gates e.refs first.refs)

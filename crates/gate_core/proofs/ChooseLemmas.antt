@@ -105,7 +105,8 @@ module _ (codes : List ℕ) (column : List Bit3) (ones zeros : ℕ) (asked : IsA
         let et = zero_there t nil in
         let ls = one_within column s es in
         let lt = zero_within column t et in
-        tells s t (entry_one (entry_at column s) es) (entry_zero (entry_at column t) et) (sym (input_bit j s lj ls) ∙ same_j ∙ input_bit j t lj lt) (sym (input_bit k s lk ls) ∙ same_k ∙ input_bit k t lk lt)
+        tells s t (entry_one (entry_at column s) es) (entry_zero (entry_at column t) et) (sym (input_bit j s lj ls)
+        ∙ same_j ∙ input_bit j t lj lt) (sym (input_bit k s lk ls) ∙ same_k ∙ input_bit k t lk lt)
 
     pub first_pair_is : (gate : Gate) → IsFirstApart ones zeros words gate → IsFirstPairOfInputs inputs codes column gate
     first_pair_is gate a =
@@ -118,7 +119,9 @@ module _ (codes : List ℕ) (column : List Bit3) (ones zeros : ℕ) (asked : IsA
           tells = apart_tells gate.j gate.k lj lk w.apart;
           first = λ j k lower m earlier tells. elim earlier [
             | inl before ↦ a.first j before k lower (omega (arith, m, h.one_each)) (tells_apart j k (omega (arith, lower, m)) m tells)
-            | inr same ↦ w.first k (omega (arith, lower, same.0)) same.1 (subst (λ i. AreApart ones zeros (slice_index words i) (slice_index words k)) same.0 (tells_apart j k (omega (arith, lower, m)) m tells))
+            | inr same ↦ w.first k (omega (arith, lower, same.0)) same.1
+                (subst (λ i. AreApart ones zeros (slice_index words i) (slice_index words k)) same.0
+                (tells_apart j k (omega (arith, lower, m)) m tells))
           ];
           few_rows = w.table.few_rows;
           table = λ p q. (

@@ -111,7 +111,9 @@ with_gate_appends list gate ok lower earlier table = elim (cases_Bool (list_any 
       let at = found (same_gate gate) list.gates there in
       let same : slice_get list.gates (position_or_len (same_gate gate) list.gates) ≡ Some gate = at.1 ∙ ap Some (same_gates gate at.0 at.2) in
       let within = slice_get_within list.gates (position_or_len (same_gate gate) list.gates) gate same in
-      as_reached list (sym (with_gate-there list gate there)) (extends_self list) ok (list.inputs + position_or_len (same_gate gate) list.gates) (sym (with_gate-signal list gate)) (omega (arith, within)) (omega arith)
+      as_reached list (sym (with_gate-there list gate there)) (extends_self list) ok
+      (list.inputs + position_or_len (same_gate gate) list.gates) (sym (with_gate-signal list gate))
+      (omega (arith, within)) (omega arith)
       (λ s. gate-signal list s (position_or_len (same_gate gate) list.gates) gate ok same) (omega arith)
   | inr new ↦
       as_reached (with_last list gate) (sym (with_gate-new list gate new)) (extends_last list gate) (one_more_gate list.inputs list.gates gate ok lower earlier table)
@@ -119,8 +121,11 @@ with_gate_appends list gate ok lower earlier table = elim (cases_Bool (list_any 
       (last-value list gate) (omega (arith, length-append list.gates (gate ∷ [])))
 ]
   where
-    as_reached : (after : GateList) → after ≡ (with_gate list gate).gates → Extends list after → IsGateList after → (signal : ℕ) → signal ≡ (with_gate list gate).signal → signal < signal_count after → list.inputs ≤ signal →
-        ((s : ℕ) → value_at after signal s ≡ gate_value gate.table (value_at list gate.j s) (value_at list gate.k s)) → length after.gates ≤ length list.gates + 1 → Appends list gate (with_gate list gate)
+    as_reached : (after : GateList) → after ≡ (with_gate list gate).gates → Extends list after → IsGateList after →
+        (signal : ℕ) → signal ≡ (with_gate list gate).signal → signal < signal_count after → list.inputs ≤ signal →
+        ((s : ℕ) → value_at after signal s ≡ gate_value gate.table (value_at list gate.j s)
+        (value_at list gate.k s)) → length after.gates ≤ length list.gates + 1 →
+        Appends list gate (with_gate list gate)
     as_reached after same extends gates signal is in_range above value few =
         let make : GateList → ℕ → Reached = λ gates signal. record { gates = gates; signal = signal } in
         subst (Appends list gate) (ap (λ g. make g signal) same ∙ ap (make (with_gate list gate).gates) is)

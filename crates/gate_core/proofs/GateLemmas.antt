@@ -55,7 +55,12 @@ gate_at (x ∷ gates) values zero d ok l =
     let n : length (values ++ next_value x values ∷ []) ≡ length values + 1 = length-append values _ in
     earlier_signal gates (values ++ next_value x values ∷ []) (length values + 0) (omega arith)
     ∙ get_or_at values (next_value x values) [] false (length values + 0) (omega arith)
-    ∙ sym (rw (earlier_signal gates (values ++ next_value x values ∷ []) x.j (omega (arith, ok.0, ok.1)), earlier_signal gates (values ++ next_value x values ∷ []) x.k (omega (arith, ok.1)), get_or_append_left values (next_value x values ∷ []) false x.j (omega (arith, ok.0, ok.1)), get_or_append_left values (next_value x values ∷ []) false x.k ok.1) refl)
+    ∙ sym (rw (
+      earlier_signal gates (values ++ next_value x values ∷ []) x.j (omega (arith, ok.0, ok.1)),
+      earlier_signal gates (values ++ next_value x values ∷ []) x.k (omega (arith, ok.1)),
+      get_or_append_left values (next_value x values ∷ []) false x.j (omega (arith, ok.0, ok.1)),
+      get_or_append_left values (next_value x values ∷ []) false x.k ok.1,
+    ) refl)
 gate_at (x ∷ gates) values (suc g) d ok l =
     let n : length (values ++ next_value x values ∷ []) ≡ length values + 1 = length-append values _ in
     let at : length values + suc g ≡ length (values ++ next_value x values ∷ []) + g = omega (arith, n) in
@@ -79,3 +84,11 @@ gate-signal list word g gate ok there =
 pub one_more_gate : (n : ℕ) (gates : List Gate) (g : Gate) → AreGatesFrom n gates → g.j < g.k → g.k < n + length gates → g.table < 16 → AreGatesFrom n (gates ++ g ∷ [])
 one_more_gate n [] g ok lower earlier table = (lower, omega (arith, earlier), table, tt)
 one_more_gate n (x ∷ gates) g ok lower earlier table = (ok.0, ok.1, ok.2, one_more_gate (n + 1) gates g ok.3 lower (omega (arith, earlier)) table)
+
+-- gates with the same signals and table are one
+pub gate_by_parts : (g h : Gate) → g.j ≡ h.j → g.k ≡ h.k → g.table ≡ h.table → g ≡ h
+gate_by_parts g h a b c = λ i. record { j = a i; k = b i; table = c i }
+
+-- lists with the same inputs and gates are one
+pub gate_list_by_parts : (g h : GateList) → g.inputs ≡ h.inputs → g.gates ≡ h.gates → g ≡ h
+gate_list_by_parts g h p q = λ i. record { inputs = p i; gates = q i }

@@ -10,7 +10,7 @@ use Rattle.std.proofs.lemmas.Bool.Decides.{nat_tests}
 use Rattle.std.proofs.lemmas.Cmp.{nat_eq_equiv}
 use Rattle.std.proofs.lemmas.Map.Keys.{IsDistinct-from_apart}
 use Rattle.std.proofs.lemmas.Map.Made.{length-le_from_is_member}
-use Rattle.gate_core.specs.Matching.{IsMatching, IsMatchingBut, IsOwner, IsClosed}
+use Rattle.gate_core.specs.Matching.{IsMatching, IsMatchingBut, IsOwner, IsHallViolator}
 
 -- ---- the first values of a function
 
@@ -63,7 +63,7 @@ pigeons f n ys apart stands =
 -- ---- a closed set
 
 module _ (may_have : ℕ → ℕ → Type 0) (top n hole : ℕ) (words other : List ℕ) (among : ℕ → Bool)
-    (size : n ≤ length words) (m : IsMatchingBut may_have top n hole words) (closed : IsClosed may_have top n hole words among)
+    (size : n ≤ length words) (m : IsMatchingBut may_have top n hole words) (closed : IsHallViolator may_have top n hole words among)
     (k : IsMatching may_have top n other) where
   -- the other list's words among the closed set, and these elsewhere
   word_by : Bool → ℕ → ℕ
@@ -114,10 +114,18 @@ module _ (may_have : ℕ → ℕ → Type 0) (top n hole : ℕ) (words other : L
 
   values_stand : (i : ℕ) → i < suc n → (p : ℕ) × (p < length marked) × (value i ≡ get_or marked p 0)
   unfolding value marked
-  values_stand zero l = (hole, omega (arith, length-set (take n words) hole top, length-take-le n words size, m.hole_within), sym (get_or-set_same (take n words) hole top 0 (omega (arith, m.hole_within, length-take-le n words size))))
+  values_stand zero l = (
+    hole,
+    omega (arith, length-set (take n words) hole top, length-take-le n words size, m.hole_within),
+    sym (get_or-set_same (take n words) hole top 0 (omega (arith, m.hole_within, length-take-le n words size))),
+  )
   values_stand (suc i) l =
-      let s = stands_by (among i) i refl (omega arith) in
-      (s.0, omega (arith, length-set (take n words) hole top, length-take-le n words size, s.1.within), sym s.1.has ∙ sym (get_or-set_other (take n words) hole s.0 top 0 s.1.other ∙ get_or-take n words s.0 0 s.1.within))
+      let s = stands_by (among i) i refl (omega arith) in (
+        s.0,
+        omega (arith, length-set (take n words) hole top, length-take-le n words size, s.1.within),
+        sym s.1.has
+            ∙ sym (get_or-set_other (take n words) hole s.0 top 0 s.1.other ∙ get_or-take n words s.0 0 s.1.within),
+      )
 
   pub no_matching : ⊥
   unfolding marked

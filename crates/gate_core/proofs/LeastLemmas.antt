@@ -7,7 +7,7 @@ use Rattle.std.proofs.Math.ListN.{length-set, set}
 use Rattle.std.proofs.Math.Pow.{pow-lt}
 use Rattle.cpog_defs.specs.declared.types.Bit3.{Bit3}
 use Rattle.std.proofs.Common.{Bool, true, false, IsTrue}
-use Rattle.gate_core.specs.Matching.{IsMatching, IsMatchingBut, IsOwner, IsOwned, IsBlocked, IsClosed, IsTight, is_in}
+use Rattle.gate_core.specs.Matching.{IsMatching, IsMatchingBut, IsOwner, IsOwned, IsBlocked, IsHallViolator, IsTight, is_in}
 use Rattle.gate_core.proofs.HallLemmas.{no_matching, same_number}
 use Rattle.gate_core.specs.Patterns.{MayHave}
 use Rattle.gate_core.specs.Least.{Agree, AreLeast}
@@ -115,7 +115,9 @@ module _ (patterns : List (List Bit3)) (top n : ℕ) (before fixed words : List 
         ∙ get_or-set_other fixed s i word 0 other ∙ same_front fixed before s i same in_s ∙ sym (get_or-take s before i 0 in_s);
   }
 
-  pub tight_after : (marks : List Bool) → IsClosed (MayHave patterns (take (s + 1) (set fixed s word))) top n s words (is_in marks) → IsTight (MayHave patterns (take s before)) top n s words marks
+  pub tight_after : (marks : List Bool) → IsHallViolator
+      (MayHave patterns (take (s + 1) (set fixed s word))) top n s words (is_in marks) →
+      IsTight (MayHave patterns (take s before)) top n s words marks
   tight_after marks closed i w l other t below may = let p = closed.owned i w l t below (elsewhere i w other may) in record { owner = p.0; is_owner = p.1; is_reached = p.2 }
 
   pub but_s : IsMatching (MayHave patterns (take s before)) top n words → IsMatchingBut (MayHave patterns (take (s + 1) (set fixed s word))) top n s words
@@ -134,14 +136,25 @@ module _ (patterns : List (List Bit3)) (top n : ℕ) (before fixed words : List 
         has_hole = or_right (nat_lt s s || is_in marks s) (s == s) (eq-eqb s s refl);
         owned = λ i w l t below may. elim (cases_eq i s) [
           | inl at_s ↦
-              let is : w ≡ word = (subst (λ x. MayHave patterns (take (s + 1) (set fixed s word)) x w) at_s may).kept (omega (arith, length-take-le (s + 1) (set fixed s word) (omega (arith, long, length-set fixed s word))))
+              let is : w ≡ word =
+              (subst (λ x. MayHave patterns (take (s + 1) (set fixed s word)) x w) at_s may).kept
+              (omega (
+                arith,
+                length-take-le (s + 1) (set fixed s word)
+                    (omega (arith, long, length-set fixed s word)),
+              ))
               ∙ get_or-take (s + 1) (set fixed s word) s 0 (omega arith) ∙ get_or-set_same fixed s word 0 long in
               blocked w (subst (IsBlocked n s words marks) (sym is) owned)
           | inr off ↦ elim (cases_lt i s) [
             | inl earlier ↦
                 -- an earlier scenario may have its fixed word alone, which it has
                 let same_word : w ≡ get_or words i 0 =
-                (back i w off may).kept (omega (arith, earlier, length-take-le s before (omega (arith, long_too)))) ∙ sym ((m.had i l).kept (omega (arith, earlier, length-take-le s before (omega (arith, long_too))))) in
+                (back i w off may).kept (omega (arith, earlier, length-take-le s before (omega (arith, long_too))))
+                ∙ sym ((m.had i l).kept (omega (
+                  arith,
+                  earlier,
+                  length-take-le s before (omega (arith, long_too)),
+                ))) in
                 blocked w (record { owner = i; is_owner = record { within = l; other = off; has = sym same_word }; is_among = or_left (nat_lt i s) (is_in marks i) (lt-ltb i s earlier) })
             | inr later ↦ marked w (tight i w l off (unmarked i off later t) below (back i w off may))
           ]

@@ -306,7 +306,9 @@ can_join list ok two s ss differ =
       differ = differ_stay list.inputs _ (sym whole) ss differ.1;
     }
   where
-    all_fresh : (after : GateList) (signal : ℕ) → IsMintermSignal after s signal → after.inputs ≡ list.inputs → (xs : List ℕ) → AllByRecursion (λ x. SameBits list.inputs s x → ⊥) xs → AllByRecursion (λ x. value_at after signal x ≡ false) xs
+    all_fresh : (after : GateList) (signal : ℕ) → IsMintermSignal after s signal → after.inputs ≡ list.inputs →
+        (xs : List ℕ) → AllByRecursion (λ x. SameBits list.inputs s x → ⊥) xs →
+        AllByRecursion (λ x. value_at after signal x ≡ false) xs
     all_fresh after signal h whole [] d = tt
     all_fresh after signal h whole (x ∷ xs) d = (false_from_ne_true (value_at after signal x) (λ t. d.0 (λ b l. (h.value x).0 t b (omega (arith, whole)))), all_fresh after signal h whole xs d.1)
 
@@ -350,7 +352,9 @@ pub first_step : (list : GateList) (s table : ℕ) → table ≡ only_at (bit s 
 unfolding minterm
 first_step list s table is r e = let gate : ℕ → Gate = λ t. record { j = 0; k = 1; table = t } in ap (λ t. with_gate list (gate t)) (sym is) ∙ e
 
-pub next_step : (list : GateList) (s i : ℕ) (between : GateList) (number : ℕ) → (let make : GateList → ℕ → Reached = λ g n. record { gates = g; signal = n } in minterm list s i ≡ make between number) →
+pub next_step : (list : GateList) (s i : ℕ) (between : GateList) (number : ℕ) →
+    (let make : GateList → ℕ → Reached = λ g n. record { gates = g; signal = n } in
+    minterm list s i ≡ make between number) →
     (j table : ℕ) → j ≡ i + 2 → table ≡ only_at (bit s (i + 2)) true → (r : Reached) → with_gate between (record { j = j; k = number; table = table }) ≡ r → minterm list s (i + 1) ≡ r
 unfolding minterm
 next_step list s i between number before j table is_j is_table r e =

@@ -51,7 +51,9 @@ first_gate : (inputs : ℕ) (codes : List ℕ) (column : List Bit3) (a b : Gate)
 first_gate inputs codes column a b x y =
     let make : ℕ → ℕ → ℕ → Gate = λ j k table. record { j = j; k = k; table = table } in
     let at : (p q : Bool) → gate_value a.table p q ≡ gate_value b.table p q =
-    λ p q. same_tests (gate_value a.table p q) (gate_value b.table p q) (IsAskedAt codes column a.j a.k p q) (x.table p q) (subst (λ j. IsTrue (gate_value b.table p q) ↔ IsAskedAt codes column j a.k p q) (sym same_j) (subst (λ k. IsTrue (gate_value b.table p q) ↔ IsAskedAt codes column b.j k p q) (sym same_k) (y.table p q))) in
+    λ p q. same_tests (gate_value a.table p q) (gate_value b.table p q) (IsAskedAt codes column a.j a.k p q)
+    (x.table p q) (subst (λ j. IsTrue (gate_value b.table p q) ↔ IsAskedAt codes column j a.k p q) (sym same_j)
+    (subst (λ k. IsTrue (gate_value b.table p q) ↔ IsAskedAt codes column b.j k p q) (sym same_k) (y.table p q))) in
     ap (λ j. make j a.k a.table) same_j ∙ ap (λ k. make b.j k a.table) same_k ∙ ap (make b.j b.k) (same_table a.table b.table x.few_rows y.few_rows at)
   where
     same_j : a.j ≡ b.j
@@ -112,7 +114,8 @@ module _ (codes : List ℕ) (before : GateList) (column : List Bit3) (x y : Gate
 
 -- ---- columns in order
 
-pub takes_all_once : (codes : List ℕ) (before : GateList) (columns : List (List Bit3)) (x y : GateList) (r s : List Ref) → TakesAll codes before columns x r → TakesAll codes before columns y s → (x ≡ y) × (r ≡ s)
+pub takes_all_once : (codes : List ℕ) (before : GateList) (columns : List (List Bit3)) (x y : GateList)
+    (r s : List Ref) → TakesAll codes before columns x r → TakesAll codes before columns y s → (x ≡ y) × (r ≡ s)
 takes_all_once codes before [] x y r s a b = (a.0 ∙ sym b.0, a.1 ∙ sym b.1)
 takes_all_once codes before (column ∷ columns) x y r s a b =
     let here = takes_once codes before column a.0 b.0 a.1 b.1 a.4 b.4 in

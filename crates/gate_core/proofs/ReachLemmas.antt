@@ -3,7 +3,7 @@ use Rattle.std.proofs.Common.{◌≡◌, ◌≢◌, ℕ, ◌+◌, ◌<◌, ◌�
 use Rattle.std.proofs.lemmas.Bool.{cases_eq, both_ways}
 use Rattle.std.proofs.lemmas.List.{get_or-set_same, get_or-set_other}
 use Rattle.std.proofs.Math.ListN.{length-set, set}
-use Rattle.gate_core.specs.Matching.{IsMatching, IsMatchingBut, IsOwner, IsOwned, IsReach, IsTried, Grows, IsClosed, list_at, is_in}
+use Rattle.gate_core.specs.Matching.{IsMatching, IsMatchingBut, IsOwner, IsOwned, IsReach, IsTried, Grows, IsHallViolator, list_at, is_in}
 use Rattle.std.specs.List.{sum_by}
 use Rattle.std.proofs.Common.{replicate}
 use Rattle.std.proofs.lemmas.List.{get_or-replicate, length-replicate}
@@ -160,7 +160,8 @@ module _ (may_have : ℕ → ℕ → Type 0) (top n hole : ℕ) (words : List �
     }
 
 -- at first only the one without a word is reached
-module _ (may_have : ℕ → ℕ → Type 0) (top n hole : ℕ) (words : List ℕ) (size : length words ≡ 64) (small : n ≤ 64) (m : IsMatchingBut may_have top n hole words) (empty : List (List ℕ)) (no_marks : List Bool)
+module _ (may_have : ℕ → ℕ → Type 0) (top n hole : ℕ) (words : List ℕ) (size : length words ≡ 64) (small : n ≤ 64)
+    (m : IsMatchingBut may_have top n hole words) (empty : List (List ℕ)) (no_marks : List Bool)
     (lists_are : empty ≡ replicate {A = List ℕ} 64 (replicate {A = ℕ} 64 0)) (marks_are : no_marks ≡ replicate 64 false) where
   lists_long : length empty ≡ 64
   lists_long = ap length lists_are ∙ length-replicate 64 (replicate {A = ℕ} 64 0)
@@ -231,6 +232,6 @@ tried_more may_have top n hole words before after tried i grows old new k l t wo
 
 pub closed_now : (may_have : ℕ → ℕ → Type 0) (top n hole : ℕ) (words : List ℕ) (lists : List (List ℕ)) (reached : List Bool) →
     IsReach may_have top n hole words lists reached →
-    ((i : ℕ) → i < n → IsTrue (is_in reached i) → IsTried may_have top n hole words reached i) → IsClosed may_have top n hole words (is_in reached)
+    ((i : ℕ) → i < n → IsTrue (is_in reached i) → IsTried may_have top n hole words reached i) → IsHallViolator may_have top n hole words (is_in reached)
 closed_now may_have top n hole words lists reached reach tried =
     record { has_hole = reach.has_hole; owned = λ i word p t l may. let s = tried i p t word l may in (s.owner, s.is_owner, s.is_reached) }

@@ -21,7 +21,9 @@ pub record AreInputsTo (codes : List ℕ) (i : ℕ) (words : List ℕ) : Type 0 
   pub one_each : length words ≡ i
   pub values : (n s : ℕ) → n < i → s < length codes → bit (slice_index words n) s ≡ bit (code_at codes s) n
 
-pub one_more_input : (codes : List ℕ) (i : ℕ) (words : List ℕ) (word : ℕ) → AreInputsTo codes i words → ((s : ℕ) → s < length codes → bit word s ≡ bit (code_at codes s) i) → AreInputsTo codes (i + 1) (words ++ word ∷ [])
+pub one_more_input : (codes : List ℕ) (i : ℕ) (words : List ℕ) (word : ℕ) → AreInputsTo codes i words →
+    ((s : ℕ) → s < length codes → bit word s ≡ bit (code_at codes s) i) →
+    AreInputsTo codes (i + 1) (words ++ word ∷ [])
 one_more_input codes i words word h is = record {
   one_each = omega (arith, length-append words (word ∷ []), h.one_each);
   values = λ n s l m. elim (cases_eq n i) [
@@ -58,7 +60,18 @@ pub gate_bits : (table first second a b c d : ℕ) → first < 2 ^ 64 → second
     (s : ℕ) → s < 64 → bit (bit_or (bit_or (bit_or a b) c) d) s ≡ gate_value table (bit first s) (bit second s)
 gate_bits table first second a b c d lf ls ra rb rc rd s l =
     bit-or (bit_or (bit_or a b) c) d s ∙ ap (λ x. x || bit d s) (bit-or (bit_or a b) c s ∙ ap (λ x. x || bit c s) (bit-or a b s))
-    ∙ rw (ra s, rb s, rc s, rd s, bit-and (bit_not w64 first) (bit_not w64 second) s, bit-and (bit_not w64 first) second s, bit-and first (bit_not w64 second) s, bit-and first second s, bit-not w64 first s lf l, bit-not w64 second s ls l)
+    ∙ rw (
+      ra s,
+      rb s,
+      rc s,
+      rd s,
+      bit-and (bit_not w64 first) (bit_not w64 second) s,
+      bit-and (bit_not w64 first) second s,
+      bit-and first (bit_not w64 second) s,
+      bit-and first second s,
+      bit-not w64 first s lf l,
+      bit-not w64 second s ls l,
+    )
     (four (λ n. bit table n) (bit first s) (bit second s))
   where
     none : (x : Bool) → (x && false) ≡ false
@@ -82,7 +95,8 @@ gate_bits table first second a b c d lf ls ra rb rc rd s l =
 -- ---- one signal more
 
 pub one_more_signal : (codes : List ℕ) (list : GateList) (gate : Gate) (words : List ℕ) (word : ℕ) → AreSignals codes list words → gate.j < gate.k → gate.k < signal_count list → gate.table < 16 →
-    ((s : ℕ) → s < length codes → bit word s ≡ gate_value gate.table (bit (slice_index words gate.j) s) (bit (slice_index words gate.k) s)) → AreSignals codes (with_last list gate) (words ++ word ∷ [])
+    ((s : ℕ) → s < length codes → bit word s ≡ gate_value gate.table (bit (slice_index words gate.j) s)
+    (bit (slice_index words gate.k) s)) → AreSignals codes (with_last list gate) (words ++ word ∷ [])
 one_more_signal codes list gate words word h lower earlier table is = record {
   some = h.some;
   few = h.few;
@@ -96,7 +110,9 @@ one_more_signal codes list gate words word h lower earlier table is = record {
         ∙ sym (last-value list gate (code_at codes s)))
     | inr other ↦
         let before : n < signal_count list = omega (arith, l, length-append list.gates (gate ∷ [])) in
-        ap (λ w. bit w s) (get_or_append_left words (word ∷ []) 0 n (omega (arith, h.one_each))) ∙ h.values n s before m ∙ sym (extends-value list (with_last list gate) (extends_last list gate) n (code_at codes s) before)
+        ap (λ w. bit w s) (get_or_append_left words (word ∷ []) 0 n (omega (arith, h.one_each)))
+        ∙ h.values n s before m ∙ sym (extends-value list (with_last list gate) (extends_last list gate) n
+        (code_at codes s) before)
   ];
 }
 

@@ -20,7 +20,7 @@ use Rattle.cpog_base.specs.Column.{is_one, is_zero}
 use Rattle.gate_core.specs.Columns.{IsOpenColumn}
 use Rattle.gate_core.specs.First.{code_at, with_gate, SignalAgrees, NoSignalAgrees, codes_where, has_fewer_zeros, smaller_codes, sum_of_minterms, IsBySignal, IsByPair, IsByMinterms, Takes, TakesAll}
 use Rattle.gate_core.specs.Serving.{ReferencesServe}
-use Rattle.gate_core.specs.Words.{Signals, value_at, IsEncodable}
+use Rattle.gate_core.specs.Words.{Signals, value_at, IsColumnOnCodes}
 use Rattle.gate_core.specs.Minterms.{SameBits, AllDiffer}
 use Rattle.gate_core.proofs.GateLemmas.{input-signal}
 use Rattle.gate_core.proofs.ExtendLemmas.{Extends, extends_self, extends_trans, extends-value, extends-count, with_gate_appends}
@@ -201,7 +201,7 @@ some_long : (n : ℕ) (xs : List ℕ) (t : ℕ) → SomeSame n xs t → 1 ≤ le
 some_long n [] t h = absurd h
 some_long n (x ∷ xs) t h = omega arith
 
-module _ (codes : List ℕ) (inputs : ℕ) (column : List Bit3) (enc : IsEncodable codes inputs column) where
+module _ (codes : List ℕ) (inputs : ℕ) (column : List Bit3) (enc : IsColumnOnCodes codes inputs column) where
   -- the codes of the scenarios that pass a test which some entry passes
   module _ (p : Bit3 → Bool) (some : IsTrue (list_any p column)) where
     some_code : 1 ≤ length (codes_where p codes column)
@@ -303,10 +303,14 @@ module _ (codes : List ℕ) (inputs : ℕ) (column : List Bit3) (enc : IsEncodab
           let apart : (x y : ℕ) → x < length codes → y < length codes → first x ≡ first y → x ≡ y = λ x y lx ly e. one_scenario codes 1 x y h lx ly (one_bit (code_at codes x) (code_at codes y) e) in
           let other : first t ≡ first s → ⊥ = λ e. differ (subst (λ x. entry_at column x ≡ Zero) (apart t s lt ls e) nil) in
           elim (cases_eq_bool (first u) (first s)) [
-            | inl e ↦ subst (λ x. Agrees (entry_at column x) (signed (not (first s)) (first x))) (sym (apart u s lu ls e)) (subst (λ x. Agrees x (signed (not (first s)) (first s))) (sym one) (as_first (first s)))
+            | inl e ↦ subst (λ x. Agrees (entry_at column x) (signed (not (first s)) (first x)))
+                (sym (apart u s lu ls e)) (subst (λ x. Agrees x (signed (not (first s)) (first s))) (sym one)
+                (as_first (first s)))
             | inr d ↦
                 let e : u ≡ t = apart u t lu lt (no_third (first s) (first t) (first u) other d) in
-                subst (λ x. Agrees (entry_at column x) (signed (not (first s)) (first x))) (sym e) (subst (λ x. Agrees x (signed (not (first s)) (first t))) (sym nil) (as_second (first s) (first t) other))
+                subst (λ x. Agrees (entry_at column x) (signed (not (first s)) (first x))) (sym e)
+                (subst (λ x. Agrees x (signed (not (first s)) (first t))) (sym nil)
+                (as_second (first s) (first t) other))
           ]
         where
           differ : entry_at column s ≡ Zero → ⊥
@@ -327,7 +331,7 @@ pub record IsTaken (codes : List ℕ) (before : GateList) (column : List Bit3) (
   pub over : IsRefOver (signal_count after) ref
   pub agrees : RefAgrees after codes column ref
 
-module _ (codes : List ℕ) (before : GateList) (column : List Bit3) (ok : IsGateList before) (some : 1 ≤ before.inputs) (enc : IsEncodable codes before.inputs column) where
+module _ (codes : List ℕ) (before : GateList) (column : List Bit3) (ok : IsGateList before) (some : 1 ≤ before.inputs) (enc : IsColumnOnCodes codes before.inputs column) where
   as_taken : (x y : GateList) (a b : Ref) → x ≡ y → a ≡ b → IsTaken codes before column x a → IsTaken codes before column y b
   as_taken x y a b same_gates same_ref h = subst (IsTaken codes before column y) same_ref (subst (λ g. IsTaken codes before column g a) same_gates h)
 
@@ -353,7 +357,9 @@ module _ (codes : List ℕ) (before : GateList) (column : List Bit3) (ok : IsGat
         agrees = agrees_from r.gates codes column r.signal false (λ s l. let w = code_at codes s in
             subst (Agrees (entry_at column s)) (sym (value w)) (agrees_by (entry_at column s) (gate_value gate.table (bit w gate.j) (bit w gate.k))
             (λ t. (h.pair.table (bit w gate.j) (bit w gate.k)).1 (s, entry_one (entry_at column s) t, refl, refl))
-            (λ t. false_from_ne_true (gate_value gate.table (bit w gate.j) (bit w gate.k)) (λ one. let x = (h.pair.table (bit w gate.j) (bit w gate.k)).0 one in h.pair.tells x.0 s x.1 (entry_zero (entry_at column s) t) x.2 x.3))));
+            (λ t. false_from_ne_true (gate_value gate.table (bit w gate.j) (bit w gate.k))
+            (λ one. let x = (h.pair.table (bit w gate.j) (bit w gate.k)).0 one in
+            h.pair.tells x.0 s x.1 (entry_zero (entry_at column s) t) x.2 x.3))));
       })
 
   minterms_taken : (after : GateList) (ref : Ref) → IsByMinterms codes before column after ref → IsTaken codes before column after ref
@@ -382,8 +388,10 @@ takes_push codes before [] between refs column after ref h t = (after, ref, [], 
 takes_push codes before (c ∷ columns) between refs column after ref h t = (h.0, h.1, h.2 ++ ref ∷ [], ap (λ r. r ++ ref ∷ []) h.3, h.4, takes_push codes h.0 columns between h.2 column after ref h.5 t)
 
 -- the next column after those below a place
-pub takes_next : (codes : List ℕ) (before : GateList) (columns : List (List Bit3)) (i : ℕ) (between : GateList) (refs : List Ref) → TakesAll codes before (take i columns) between refs → i < length columns →
-    (column : List Bit3) → column ≡ slice_index_or columns i column → (after : GateList) (ref : Ref) → Takes codes between column after ref → TakesAll codes before (take (i + 1) columns) after (refs ++ ref ∷ [])
+pub takes_next : (codes : List ℕ) (before : GateList) (columns : List (List Bit3)) (i : ℕ) (between : GateList)
+    (refs : List Ref) → TakesAll codes before (take i columns) between refs → i < length columns →
+    (column : List Bit3) → column ≡ slice_index_or columns i column → (after : GateList) (ref : Ref) →
+    Takes codes between column after ref → TakesAll codes before (take (i + 1) columns) after (refs ++ ref ∷ [])
 takes_next codes before columns i between refs h l column is after ref t =
     let longer : take (i + 1) columns ≡ take i columns ++ column ∷ [] = take_more columns i column l ∙ ap (λ c. take i columns ++ c ∷ []) (sym is) in
     subst (λ cs. TakesAll codes before cs after (refs ++ ref ∷ [])) (sym longer) (takes_push codes before (take i columns) between refs column after ref h t)
@@ -408,7 +416,7 @@ pub record AllTaken (codes : List ℕ) (before : GateList) (columns : List (List
   pub over : All (IsRefOver (signal_count after)) refs
   pub agrees : (c : ℕ) (column : List Bit3) (ref : Ref) → slice_get columns c ≡ Some column → slice_get refs c ≡ Some ref → RefAgrees after codes column ref
 
-pub all_taken : (codes : List ℕ) (before : GateList) → IsGateList before → 1 ≤ before.inputs → (columns : List (List Bit3)) → All (IsEncodable codes before.inputs) columns →
+pub all_taken : (codes : List ℕ) (before : GateList) → IsGateList before → 1 ≤ before.inputs → (columns : List (List Bit3)) → All (IsColumnOnCodes codes before.inputs) columns →
     (after : GateList) (refs : List Ref) → TakesAll codes before columns after refs → AllTaken codes before columns after refs
 all_taken codes before ok some [] enc after refs h =
     subst (λ g. AllTaken codes before [] g refs) (sym h.0) (subst (AllTaken codes before [] before) (sym h.1) (record {
@@ -423,7 +431,10 @@ all_taken codes before ok some (column ∷ columns) enc after refs h =
     let ref = h.1 in
     let rest = h.2 in
     let one = taken codes before column ok some (enc 0 column (omega arith)) between ref h.4 in
-    let others = all_taken codes between one.gates (omega (arith, one.extends.inputs)) columns (λ k d l. subst (λ n. IsEncodable codes n (slice_index_or columns k d)) (sym one.extends.inputs) (enc (suc k) d (omega arith))) after rest h.5 in
+    let others =
+    all_taken codes between one.gates (omega (arith, one.extends.inputs)) columns
+    (λ k d l. subst (λ n. IsColumnOnCodes codes n (slice_index_or columns k d)) (sym one.extends.inputs)
+    (enc (suc k) d (omega arith))) after rest h.5 in
     subst (AllTaken codes before (column ∷ columns) after) (sym h.3) (record {
       extends = extends_trans before between after one.extends others.extends;
       gates = others.gates;
@@ -432,7 +443,8 @@ all_taken codes before ok some (column ∷ columns) enc after refs h =
       agrees = agree_all between after ref rest (agrees_stays between after others.extends codes column ref one.over one.agrees) others.agrees;
     })
   where
-    over_all : (between after : GateList) (ref : Ref) (rest : List Ref) → IsRefOver (signal_count after) ref → All (IsRefOver (signal_count after)) rest → All (IsRefOver (signal_count after)) (ref ∷ rest)
+    over_all : (between after : GateList) (ref : Ref) (rest : List Ref) → IsRefOver (signal_count after) ref →
+        All (IsRefOver (signal_count after)) rest → All (IsRefOver (signal_count after)) (ref ∷ rest)
     over_all between after ref rest a b zero d l = a
     over_all between after ref rest a b (suc k) d l = b k d (omega arith)
 
@@ -448,7 +460,7 @@ all_taken codes before ok some (column ∷ columns) enc after refs h =
 -- ---- the whole
 
 pub encodable : (codes : List ℕ) (bits : ℕ) → length codes ≤ 64 → AreCodes bits (length codes) codes → (columns : List (List Bit3)) →
-    All (IsOpenColumn (length codes)) columns → All (IsEncodable codes bits) columns
+    All (IsOpenColumn (length codes)) columns → All (IsColumnOnCodes codes bits) columns
 encodable codes bits few are columns h k d l = record { is_open = h k d l; few = few; codes_are = are }
 
 -- the columns are taken from no gate on

@@ -35,7 +35,10 @@ pub record Reached : Type 0 where
 -- the list with the gate, and the gate's signal: a gate that equals an earlier one isn't appended again
 unfoldable pub with_gate : GateList → Gate → Reached
 with_gate list gate = record {
-  gates = record { inputs = list.inputs; gates = if list_any (same_gate gate) list.gates then list.gates else list.gates ++ gate ∷ [] };
+  gates = record {
+    inputs = list.inputs;
+    gates = if list_any (same_gate gate) list.gates then list.gates else list.gates ++ gate ∷ [];
+  };
   signal = list.inputs + position_or_len (same_gate gate) list.gates;
 }
 
@@ -47,10 +50,12 @@ SignalAgrees gates codes column number negated = RefAgrees gates codes column (S
 
 -- no signal's values are as asked, nor are their complements
 abbrev pub NoSignalAgrees : GateList → List ℕ → List Bit3 → Type 0
-NoSignalAgrees gates codes column = (number : ℕ) (negated : Bool) → number < signal_count gates → SignalAgrees gates codes column number negated → ⊥
+NoSignalAgrees gates codes column =
+    (number : ℕ) (negated : Bool) → number < signal_count gates → SignalAgrees gates codes column number negated → ⊥
 
 -- the first signal that agrees, complemented only where its values as they stand don't
-pub record IsFirstSignal (gates : GateList) (codes : List ℕ) (column : List Bit3) (number : ℕ) (negated : Bool) : Type 0 where
+pub record IsFirstSignal (gates : GateList) (codes : List ℕ) (column : List Bit3) (number : ℕ)
+    (negated : Bool) : Type 0 where
   pub in_range : number < signal_count gates
   pub agrees : SignalAgrees gates codes column number negated
   pub first : (k : ℕ) (sign : Bool) → k < number → SignalAgrees gates codes column k sign → ⊥
@@ -70,14 +75,16 @@ NoPairTells inputs codes column = (j k : ℕ) → j < k → k < inputs → Tells
 
 -- some scenario is asked for a 1 whose code has these values of two inputs
 abbrev pub IsAskedAt : List ℕ → List Bit3 → ℕ → ℕ → Bool → Bool → Type 0
-IsAskedAt codes column j k p q = (s : ℕ) × (entry_at column s ≡ One) × (bit (code_at codes s) j ≡ p) × (bit (code_at codes s) k ≡ q)
+IsAskedAt codes column j k p q =
+    (s : ℕ) × (entry_at column s ≡ One) × (bit (code_at codes s) j ≡ p) × (bit (code_at codes s) k ≡ q)
 
 -- the gate of the first two inputs that tell the scenarios apart, 1 exactly where a scenario is asked for a 1
 pub record IsFirstPairOfInputs (inputs : ℕ) (codes : List ℕ) (column : List Bit3) (gate : Gate) : Type 0 where
   pub lower : gate.j < gate.k
   pub in_range : gate.k < inputs
   pub tells : TellsApart codes column gate.j gate.k
-  pub first : (j k : ℕ) → j < k → k < inputs → (j < gate.j) ⊎ ((j ≡ gate.j) × (k < gate.k)) → TellsApart codes column j k → ⊥
+  pub first : (j k : ℕ) → j < k → k < inputs → (j < gate.j) ⊎ ((j ≡ gate.j) × (k < gate.k)) →
+      TellsApart codes column j k → ⊥
   pub few_rows : gate.table < 16
   pub table : (p q : Bool) → IsTrue (gate_value gate.table p q) ↔ IsAskedAt codes column gate.j gate.k p q
 
@@ -107,10 +114,12 @@ minterms list (code ∷ rest) =
     let others = minterms one.gates rest in
     record { gates = others.gates; signals = one.signal ∷ others.signals }
 
--- a signal joined with further ones from the first on, by gates that are 1 where either signal is, the lower number first
+-- a signal joined with further ones from the first on, by gates that are 1 where either signal is, the lower number
+-- first
 unfoldable pub joined : Reached → List ℕ → Reached
 joined one [] = one
-joined one (m ∷ rest) = joined (with_gate one.gates (record { j = min one.signal m; k = max one.signal m; table = 14 })) rest
+joined one (m ∷ rest) =
+    joined (with_gate one.gates (record { j = min one.signal m; k = max one.signal m; table = 14 })) rest
 
 -- the minterms of some codes, all of them first, and then joined
 unfoldable pub sum_of_minterms : GateList → List ℕ → Reached
@@ -122,7 +131,8 @@ sum_of_minterms list (code ∷ rest) =
 
 -- the codes of the scenarios at whose entries a test holds
 abbrev pub codes_where : (Bit3 → Bool) → List ℕ → List Bit3 → List ℕ
-codes_where p codes column = each_below (λ s. if p (entry_at column s) then code_at codes s ∷ [] else []) (length column)
+codes_where p codes column =
+    each_below (λ s. if p (entry_at column s) then code_at codes s ∷ [] else []) (length column)
 
 -- whether fewer scenarios are asked for a 0 than for a 1
 abbrev pub has_fewer_zeros : List Bit3 → Bool
@@ -130,12 +140,14 @@ has_fewer_zeros column = nat_lt (count_by is_zero column) (count_by is_one colum
 
 -- the codes of the scenarios that are asked for a 1, or of those that are asked for a 0 where these are fewer
 abbrev pub smaller_codes : List ℕ → List Bit3 → List ℕ
-smaller_codes codes column = if has_fewer_zeros column then codes_where is_zero codes column else codes_where is_one codes column
+smaller_codes codes column =
+    if has_fewer_zeros column then codes_where is_zero codes column else codes_where is_one codes column
 
 -- ---- columns in order
 
 -- the column is decided by the first signal that agrees, and no gate is appended
-pub record IsBySignal (codes : List ℕ) (before : GateList) (column : List Bit3) (after : GateList) (ref : Ref) : Type 0 where
+pub record IsBySignal (codes : List ℕ) (before : GateList) (column : List Bit3) (after : GateList)
+    (ref : Ref) : Type 0 where
   pub number : ℕ
   pub negated : Bool
   pub signal : IsFirstSignal before codes column number negated
@@ -143,7 +155,8 @@ pub record IsBySignal (codes : List ℕ) (before : GateList) (column : List Bit3
   pub reference : ref ≡ Signal number negated
 
 -- no signal agrees, and the column is decided by the first two inputs that tell its scenarios apart
-pub record IsByPair (codes : List ℕ) (before : GateList) (column : List Bit3) (after : GateList) (ref : Ref) : Type 0 where
+pub record IsByPair (codes : List ℕ) (before : GateList) (column : List Bit3) (after : GateList)
+    (ref : Ref) : Type 0 where
   pub none : NoSignalAgrees before codes column
   pub gate : Gate
   pub pair : IsFirstPairOfInputs before.inputs codes column gate
@@ -151,7 +164,8 @@ pub record IsByPair (codes : List ℕ) (before : GateList) (column : List Bit3) 
   pub reference : ref ≡ Signal (with_gate before gate).signal false
 
 -- no signal agrees and no two inputs tell the scenarios apart: the minterms of the smaller set decide
-pub record IsByMinterms (codes : List ℕ) (before : GateList) (column : List Bit3) (after : GateList) (ref : Ref) : Type 0 where
+pub record IsByMinterms (codes : List ℕ) (before : GateList) (column : List Bit3) (after : GateList)
+    (ref : Ref) : Type 0 where
   pub none : NoSignalAgrees before codes column
   pub no_pair : NoPairTells before.inputs codes column
   pub gates : after ≡ (sum_of_minterms before (smaller_codes codes column)).gates
@@ -160,7 +174,8 @@ pub record IsByMinterms (codes : List ℕ) (before : GateList) (column : List Bi
 -- what a column makes of the gates before it: the gates after it, and its reference
 abbrev pub Takes : List ℕ → GateList → List Bit3 → GateList → Ref → Type 0
 Takes codes before column after ref =
-    IsBySignal codes before column after ref ⊎ (IsByPair codes before column after ref ⊎ IsByMinterms codes before column after ref)
+    IsBySignal codes before column after ref ⊎
+    (IsByPair codes before column after ref ⊎ IsByMinterms codes before column after ref)
 
 -- what columns in order make of the gates before them: the gates after them, and a reference for each
 abbrev pub TakesAll : List ℕ → GateList → List (List Bit3) → GateList → List Ref → Type 0
@@ -169,14 +184,17 @@ TakesAll codes before (column ∷ columns) after refs =
     (between : GateList) × (ref : Ref) × (rest : List Ref) × (refs ≡ ref ∷ rest) ×
     Takes codes before column between ref × TakesAll codes between columns after rest
 
--- how many gates at most join the minterms of a column, where it needs minterms: one less than its smaller set has scenarios
-abbrev pub joins_of : (codes : List ℕ) (before : GateList) (column : List Bit3) (after : GateList) (ref : Ref) → Takes codes before column after ref → ℕ
+-- how many gates at most join the minterms of a column, where it needs minterms: one less than its smaller set has
+-- scenarios
+abbrev pub joins_of : (codes : List ℕ) (before : GateList) (column : List Bit3) (after : GateList) (ref : Ref) →
+    Takes codes before column after ref → ℕ
 joins_of codes before column after ref (inl signal) = 0
 joins_of codes before column after ref (inr (inl pair)) = 0
 joins_of codes before column after ref (inr (inr sum)) = smaller_set column - 1
 
 -- the same of all columns that need minterms
-abbrev pub all_joins : (codes : List ℕ) (before : GateList) (columns : List (List Bit3)) (after : GateList) (refs : List Ref) →
+abbrev pub all_joins : (codes : List ℕ) (before : GateList) (columns : List (List Bit3)) (after : GateList)
+    (refs : List Ref) →
     TakesAll codes before columns after refs → ℕ
 all_joins codes before [] after refs taken = 0
 all_joins codes before (column ∷ columns) after refs taken =
@@ -193,7 +211,13 @@ pub record IsFirstEncoding (codes : List ℕ) (bits : ℕ) (columns : List (List
   pub same_codes : e.codes ≡ codes
   pub refs : TakesAll codes (record { inputs = bits; gates = [] }) columns e.gates e.refs
 
--- gates over two inputs and further ones of minterms are at most 832; the rest join minterms
+-- the most gates that columns share: 16 tables over each of the 28 pairs of 8 inputs, and for the minterm of each of 64
+-- codes the 6 gates that follow its first one, which is one of these
+abbrev pub shared_gates : ℕ
+shared_gates = 16 * 28 + 64 * 6
+
+-- gates over two inputs and further ones of minterms are as many as are shared at most; the rest join minterms
 abbrev pub HasFewGates : List ℕ → ℕ → List (List Bit3) → FirstEncoding → Type 0
 HasFewGates codes bits columns e = (first : IsFirstEncoding codes bits columns e) →
-    length e.gates.gates ≤ 832 + all_joins codes (record { inputs = bits; gates = [] }) columns e.gates e.refs first.refs
+    length e.gates.gates ≤
+    shared_gates + all_joins codes (record { inputs = bits; gates = [] }) columns e.gates e.refs first.refs

@@ -11,14 +11,16 @@ use Rattle.gate_core.specs.First.{FirstEncoding, IsFirstEncoding}
 
 -- the value of an input's signal is the word's bit
 abbrev pub InputSignal : Type 0
-InputSignal = (list : GateList) (word i : ℕ) → i < list.inputs → slice_index_or (signal_values list word) i false ≡ bit word i
+InputSignal =
+    (list : GateList) (word i : ℕ) → i < list.inputs → slice_index_or (signal_values list word) i false ≡ bit word i
 
 -- the value of a gate's signal is its table's at the values of its two signals
 abbrev pub GateSignal : Type 0
 GateSignal =
     (list : GateList) (word g : ℕ) (gate : Gate) → IsGateList list → slice_get list.gates g ≡ Some gate →
     slice_index_or (signal_values list word) (list.inputs + g) false
-    ≡ gate_value gate.table (slice_index_or (signal_values list word) gate.j false) (slice_index_or (signal_values list word) gate.k false)
+    ≡ gate_value gate.table (slice_index_or (signal_values list word) gate.j false)
+    (slice_index_or (signal_values list word) gate.k false)
 
 -- there are as many values as signals
 abbrev pub SignalsAreCounted : Type 0
@@ -32,17 +34,20 @@ FirstEncodingsAgree =
 
 -- distinct words below 2 to the power bits that agree with the first n patterns are codes that keep their given bits
 abbrev pub AgreeingAreCodes : Type 0
-AgreeingAreCodes = (patterns : List (List Bit3)) (bits n : ℕ) (codes : List ℕ) → n ≤ length patterns → length codes ≡ n →
+AgreeingAreCodes =
+    (patterns : List (List Bit3)) (bits n : ℕ) (codes : List ℕ) → n ≤ length patterns → length codes ≡ n →
     Agree patterns (2 ^ bits) n codes ↔ (AreCodes bits n codes × KeepGivenBits (take n patterns) codes)
 
 -- patterns have one least list
 abbrev pub LeastCodesAgree : Type 0
-LeastCodesAgree = (patterns : List (List Bit3)) (top : ℕ) (a b : List ℕ) → AreLeast patterns top a → AreLeast patterns top b → a ≡ b
+LeastCodesAgree =
+    (patterns : List (List Bit3)) (top : ℕ) (a b : List ℕ) → AreLeast patterns top a → AreLeast patterns top b → a ≡ b
 
 -- where no bit is given and there are enough words, the least codes are the numbers of the scenarios
 abbrev pub OpenCodesAreNumbers : Type 0
 OpenCodesAreNumbers =
-    (patterns : List (List Bit3)) (top : ℕ) (codes : List ℕ) → NoneGiven patterns → length patterns ≤ top → AreLeast patterns top codes →
+    (patterns : List (List Bit3)) (top : ℕ) (codes : List ℕ) → NoneGiven patterns → length patterns ≤ top →
+    AreLeast patterns top codes →
     codes ≡ numbers (length patterns)
 
 -- an encoding that keeps given bits is an encoding

@@ -1,5 +1,7 @@
--- Words for scenarios, each of which takes some words alone: lists of distinct words, and what shows that there is none.
+-- Words for scenarios, each of which takes some words alone: lists of distinct words, and what shows that there is
+-- none.
 use Rattle.std.specs.Prelude.{◌≡◌, ◌≢◌, ℕ, ◌<◌, nat_lt, ◌||◌, Bool, true, false, IsTrue, List, [], length, slice_index, slice_index_or}
+use Rattle.cpog_base.specs.declared.limits.TheConstants.{SCENARIO_LIMIT}
 
 -- one word for each of n scenarios, which its scenario may have, any two different
 pub record IsMatching (may_have : ℕ → ℕ → Type 0) (top n : ℕ) (words : List ℕ) : Type 0 where
@@ -20,31 +22,37 @@ pub record IsOwner (n hole : ℕ) (words : List ℕ) (word o : ℕ) : Type 0 whe
   pub other : o ≢ hole
   pub has : slice_index words o ≡ word
 
--- all scenarios that have a word which one of these may have are among these
-pub record IsClosed (may_have : ℕ → ℕ → Type 0) (top n hole : ℕ) (words : List ℕ) (among : ℕ → Bool) : Type 0 where
+-- the one without a word is among these, and so is each that has a word which one of these may have: together they have
+-- fewer words than there are of them
+pub record IsHallViolator (may_have : ℕ → ℕ → Type 0) (top n hole : ℕ) (words : List ℕ)
+    (among : ℕ → Bool) : Type 0 where
   pub has_hole : IsTrue (among hole)
   pub owned : (i word : ℕ) → i < n → IsTrue (among i) → word < top → may_have i word →
       (o : ℕ) × IsOwner n hole words word o × IsTrue (among o)
 
 -- ---- the search
 
--- the list that a scenario has, and whether it is marked
+-- the list that a scenario has
 abbrev pub list_at : List (List ℕ) → ℕ → List ℕ
 list_at lists i = slice_index_or lists i []
 
+-- whether a scenario is marked
 abbrev pub is_in : List Bool → ℕ → Bool
 is_in marks i = slice_index_or marks i false
 
 -- for each scenario that is reached, words for all others, which differ from those at first in the reached ones alone
 -- and are among those at first
-pub record IsReach (may_have : ℕ → ℕ → Type 0) (top n hole : ℕ) (words : List ℕ) (lists : List (List ℕ)) (reached : List Bool) : Type 0 where
-  pub list_count : length lists ≡ 64
-  pub mark_count : length reached ≡ 64
+pub record IsReach (may_have : ℕ → ℕ → Type 0) (top n hole : ℕ) (words : List ℕ) (lists : List (List ℕ))
+    (reached : List Bool) : Type 0 where
+  pub list_count : length lists ≡ SCENARIO_LIMIT
+  pub mark_count : length reached ≡ SCENARIO_LIMIT
   pub has_hole : IsTrue (is_in reached hole)
-  pub sizes : (i : ℕ) → i < n → IsTrue (is_in reached i) → length (list_at lists i) ≡ 64
+  pub sizes : (i : ℕ) → i < n → IsTrue (is_in reached i) → length (list_at lists i) ≡ SCENARIO_LIMIT
   pub matched : (i : ℕ) → i < n → IsTrue (is_in reached i) → IsMatchingBut may_have top n i (list_at lists i)
-  pub kept : (i j : ℕ) → i < n → IsTrue (is_in reached i) → j < n → is_in reached j ≡ false → slice_index (list_at lists i) j ≡ slice_index words j
-  pub owned : (i j : ℕ) → i < n → IsTrue (is_in reached i) → j < n → j ≢ i → (o : ℕ) × IsOwner n hole words (slice_index (list_at lists i) j) o
+  pub kept : (i j : ℕ) → i < n → IsTrue (is_in reached i) → j < n → is_in reached j ≡ false →
+      slice_index (list_at lists i) j ≡ slice_index words j
+  pub owned : (i j : ℕ) → i < n → IsTrue (is_in reached i) → j < n → j ≢ i →
+      (o : ℕ) × IsOwner n hole words (slice_index (list_at lists i) j) o
 
 -- a scenario that is reached has the word
 pub record IsOwned (n hole : ℕ) (words : List ℕ) (reached : List Bool) (word : ℕ) : Type 0 where
@@ -60,7 +68,8 @@ pub record IsBlocked (n hole : ℕ) (words : List ℕ) (marks : List Bool) (word
 
 -- a scenario was tried: each word that it may have is one of a scenario that is reached
 abbrev pub IsTried : (ℕ → ℕ → Type 0) → ℕ → ℕ → ℕ → List ℕ → List Bool → ℕ → Type 0
-IsTried may_have top n hole words reached i = (word : ℕ) → word < top → may_have i word → IsOwned n hole words reached word
+IsTried may_have top n hole words reached i =
+    (word : ℕ) → word < top → may_have i word → IsOwned n hole words reached word
 
 -- none that was reached is lost
 abbrev pub Grows : List Bool → List Bool → Type 0
@@ -73,4 +82,6 @@ weight false = 1
 
 -- each word that a marked scenario, but for the one without a word, may have is one of a marked scenario
 abbrev pub IsTight : (ℕ → ℕ → Type 0) → ℕ → ℕ → ℕ → List ℕ → List Bool → Type 0
-IsTight may_have top n hole words marks = (i word : ℕ) → i < n → i ≢ hole → IsTrue (is_in marks i) → word < top → may_have i word → IsOwned n hole words marks word
+IsTight may_have top n hole words marks =
+    (i word : ℕ) → i < n → i ≢ hole → IsTrue (is_in marks i) → word < top → may_have i word →
+    IsOwned n hole words marks word

@@ -1,4 +1,5 @@
--- The values of signals on the codes of all scenarios, and what a column asks for, as words with a bit for each scenario.
+-- The values of signals on the codes of all scenarios, and what a column asks for, as words with a bit for each
+-- scenario.
 use Rattle.std.specs.Prelude.{◌≡◌, ◌↔◌, ℕ, ◌<◌, ◌≤◌, Bool, false, not, IsTrue, List, length, map, slice_index, slice_index_or}
 use Rattle.cpog_base.specs.declared.limits.TheConstants.{BIT_LIMIT, SCENARIO_LIMIT}
 use Rattle.cpog_base.specs.Column.{is_one, is_zero}
@@ -37,7 +38,8 @@ pub record AreSignals (codes : List ℕ) (list : GateList) (words : List ℕ) : 
   pub few_codes : length codes ≤ SCENARIO_LIMIT
   pub gates : IsGateList list
   pub one_each : length words ≡ signal_count list
-  pub values : (n s : ℕ) → n < signal_count list → s < length codes → bit (slice_index words n) s ≡ value_at list n (code_at codes s)
+  pub values : (n s : ℕ) → n < signal_count list → s < length codes →
+      bit (slice_index words n) s ≡ value_at list n (code_at codes s)
 
 -- for each of so many inputs a word of its values on the codes
 pub record AreInputWords (inputs : ℕ) (codes words : List ℕ) : Type 0 where
@@ -56,7 +58,7 @@ pub record IsAskedBy (column : List Bit3) (ones zeros : ℕ) : Type 0 where
   pub zeros_where : (s : ℕ) → bit zeros s ≡ is_zero (entry_at column s)
 
 -- at most 64 different codes over so many inputs, and an open column with an entry for each
-pub record IsEncodable (codes : List ℕ) (inputs : ℕ) (column : List Bit3) : Type 0 where
+pub record IsColumnOnCodes (codes : List ℕ) (inputs : ℕ) (column : List Bit3) : Type 0 where
   pub is_open : IsOpenColumn (length codes) column
   pub few : length codes ≤ SCENARIO_LIMIT
   pub codes_are : AreCodes inputs (length codes) codes
@@ -78,12 +80,15 @@ pub record IsFirstMet (ones zeros : ℕ) (words : List ℕ) (ref : Ref) : Type 0
 
 -- no scenario of one word has the bits in both further words that one of the other has
 abbrev pub AreApart : ℕ → ℕ → ℕ → ℕ → Type 0
-AreApart ones zeros first second = (s t : ℕ) → IsTrue (bit ones s) → IsTrue (bit zeros t) → bit first s ≡ bit first t → bit second s ≡ bit second t → ⊥
+AreApart ones zeros first second =
+    (s t : ℕ) → IsTrue (bit ones s) → IsTrue (bit zeros t) →
+    bit first s ≡ bit first t → bit second s ≡ bit second t → ⊥
 
 -- the table is 1 exactly at the bits in both further words that a scenario of the word has
 pub record IsTableOf (table word first second : ℕ) : Type 0 where
   pub few_rows : table < 16
-  pub rows : (p q : Bool) → IsTrue (gate_value table p q) ↔ ((s : ℕ) × IsTrue (bit word s) × (bit first s ≡ p) × (bit second s ≡ q))
+  pub rows : (p q : Bool) → IsTrue (gate_value table p q) ↔
+      ((s : ℕ) × IsTrue (bit word s) × (bit first s ≡ p) × (bit second s ≡ q))
 
 -- the gate of this word and the first later one that tell the scenarios apart
 pub record IsFirstWith (ones zeros : ℕ) (words : List ℕ) (j : ℕ) (gate : Gate) : Type 0 where
@@ -96,14 +101,16 @@ pub record IsFirstWith (ones zeros : ℕ) (words : List ℕ) (j : ℕ) (gate : G
 
 -- this word and no later one tell the scenarios apart
 abbrev pub NoneWith : ℕ → ℕ → List ℕ → ℕ → Type 0
-NoneWith ones zeros words j = (k : ℕ) → j < k → k < length words → AreApart ones zeros (slice_index words j) (slice_index words k) → ⊥
+NoneWith ones zeros words j =
+    (k : ℕ) → j < k → k < length words → AreApart ones zeros (slice_index words j) (slice_index words k) → ⊥
 
 -- the gate of the first two words that tell the scenarios apart
 pub record IsFirstApart (ones zeros : ℕ) (words : List ℕ) (gate : Gate) : Type 0 where
   pub gate_with : IsFirstWith ones zeros words gate.j gate
   pub first : (j : ℕ) → j < gate.j → NoneWith ones zeros words j
 
--- the gates have the minterms of the codes of the smaller set of a column and those that join them, and the reference is to the last
+-- the gates have the minterms of the codes of the smaller set of a column and those that join them, and the reference
+-- is to the last
 abbrev pub IsMintermsRef : List ℕ → GateList → List Bit3 → GateList → Ref → Type 0
 IsMintermsRef codes before column after ref =
     let sum = sum_of_minterms before (smaller_codes codes column) in

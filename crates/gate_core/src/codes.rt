@@ -66,8 +66,8 @@ pub fn least_codes(alloc: Global, given: &[Pattern], bits: u8) -> Result<Vec<u8>
 
 /// Distinct words that agree.
 fn match_all(given: &[Pattern], top: u16) -> Result<[u8; 64], CodesFault>
-    requires few { length given.now ≤ 64 }
-    requires top { top ≤ 256 }
+    requires few { length given.now ≤ SCENARIO_LIMIT }
+    requires top { top ≤ 2 ^ BIT_LIMIT }
     ensures words { IfOk result (λ words. IsMatching (MayHave given.now []) top (length given.now) words) }
     ensures clash { (k : ℕ) → IsErrOf result (CodesFault.Clash (record { 0 = k })) → IsFirstClash given.now top k }
 {
@@ -90,8 +90,8 @@ fn match_all(given: &[Pattern], top: u16) -> Result<[u8; 64], CodesFault>
 
 /// Fixes the least word of scenario s that leaves words for those after it, and answers words for all.
 fn lower(given: &[Pattern], top: u16, fixed: &mut [u8; 64], s: usize, words: &[u8; 64]) -> [u8; 64]
-    requires few { length given.now ≤ 64 }
-    requires top { top ≤ 256 }
+    requires few { length given.now ≤ SCENARIO_LIMIT }
+    requires top { top ≤ 2 ^ BIT_LIMIT }
     requires within { s < length given.now }
     requires words { IsMatching (MayHave given.now (take s fixed.old)) top (length given.now) words.now }
     ensures words { IsMatching (MayHave given.now (take (s + 1) fixed.new)) top (length given.now) result }

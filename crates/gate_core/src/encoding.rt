@@ -1,7 +1,8 @@
-ghost use Rattle.std.specs.Prelude.{◌≡◌, ◌≤◌, length};
+ghost use Rattle.std.specs.Prelude.{◌≡◌, ◌^◌, ◌≤◌, length};
 ghost use Rattle.cpog_defs.specs.Encodings.{IsEncoding};
 
 use crate::{ConditionalGraph, GateList};
+use cpog_base::BIT_LIMIT;
 use sqlite_items::Items;
 use std::marker::Model;
 
@@ -15,20 +16,21 @@ pub struct Encoding {
 }
 
 impl Model for Encoding {
-    ghost use Rattle.std.specs.Prelude.{◌≤◌, length};
+    ghost use Rattle.std.specs.Prelude.{◌^◌, ◌≤◌, length};
+    ghost use Rattle.cpog_base.specs.declared.limits.TheConstants.{BIT_LIMIT};
     ghost use Rattle.cpog_defs.specs.Encodings as encodings;
 
     ghost Value = { encodings.Encoding };
 
     ghost view = { λ e. record { codes = e.codes; gates = e.gates; graph = e.graph } };
 
-    ghost invariant = { λ e. (length e.codes ≤ 256) × (length e.graph.ops ≤ 128) × encodings.IsEncoding (length e.graph.ops) (record { codes = e.codes; gates = e.gates; graph = e.graph }) };
+    ghost invariant = { λ e. (length e.codes ≤ 2 ^ BIT_LIMIT) × (length e.graph.ops ≤ 128) × encodings.IsEncoding (length e.graph.ops) (record { codes = e.codes; gates = e.gates; graph = e.graph }) };
 }
 
 impl Encoding {
     /// These codes, gates and conditions together.
     pub fn new(codes: Vec<u8>, gates: GateList, graph: ConditionalGraph) -> Encoding
-        requires few { length codes.items ≤ 256 }
+        requires few { length codes.items ≤ 2 ^ BIT_LIMIT }
         requires few_ops { length graph.ops ≤ 128 }
         requires encoding { IsEncoding (length graph.ops) (record { codes = codes.items; gates = gates; graph = graph }) }
         ensures { result ≡ record { codes = codes.items; gates = gates; graph = graph } }
@@ -43,7 +45,7 @@ impl Encoding {
     /// The codes, by the scenarios' numbers.
     pub fn codes(&self) -> &[u8]
         ensures codes { result.now ≡ self.now.codes }
-        ensures few { length self.now.codes ≤ 256 }
+        ensures few { length self.now.codes ≤ 2 ^ BIT_LIMIT }
         ensures encoding { IsEncoding (length self.now.graph.ops) self.now }
     {
         self.codes.as_slice()

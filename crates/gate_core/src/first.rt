@@ -9,7 +9,7 @@ ghost use Rattle.cpog_defs.specs.Gates.{IsGateList};
 ghost use Rattle.gate_core.specs.Columns.{IsOpenColumn};
 ghost use Rattle.gate_core.specs.First.{Takes, TakesAll, IsFirstEncoding, HasFewGates};
 ghost use Rattle.gate_core.specs.Serving.{ReferencesServe};
-ghost use Rattle.gate_core.specs.Words.{IsEncodable, IsMintermsRef};
+ghost use Rattle.gate_core.specs.Words.{IsColumnOnCodes, IsMintermsRef};
 
 mod asked;
 mod choosing;
@@ -19,10 +19,19 @@ mod signals;
 use crate::{GateList, Ref};
 use asked::{asked_by, smaller_set};
 use choosing::{first_agreeing, first_pair};
-use cpog_base::{BIT_LIMIT, Column, Memory, SCENARIO_LIMIT, TEMPLATE_LIMIT};
+use cpog_base::{BIT_LIMIT, Column, Memory, SCENARIO_LIMIT};
 use minterms::sum_of_minterms;
 use signals::Signals;
 use std::alloc::Global;
+
+/// The most columns: 2 ^ 24. Each appends fewer than 64 gates to those that all share, so there are fewer than 2 ^ 30 gates,
+/// and the numbers of their signals are words of 32 bits.
+pub const COLUMN_LIMIT: u32 = 16777216;
+
+/// A law: the limit is this number.
+pub fn column_limit_is_this()
+    ensures { COLUMN_LIMIT ≡ 16777216 }
+{}
 
 /// A code for each scenario, gates over the bits of these codes, and a reference for each column.
 #[derive(Debug, Drop)]
@@ -47,7 +56,7 @@ pub fn first_encode(
     requires few_bits { bits ≤ BIT_LIMIT }
     requires few { length codes.now ≤ SCENARIO_LIMIT }
     requires codes { AreCodes bits (length codes.now) codes.now }
-    requires few_classes { length classes.now ≤ TEMPLATE_LIMIT }
+    requires few_classes { length classes.now ≤ COLUMN_LIMIT }
     requires classes { All (IsOpenColumn (length codes.now)) classes.now }
     ensures first { IfOk result (λ e. IsFirstEncoding codes.now bits classes.now (record { codes = e.codes.items; gates = e.gates; refs = e.refs.items })) }
     ensures codes { IfOk result (λ e. e.codes.items ≡ codes.now) }
@@ -66,9 +75,9 @@ pub fn first_encode(
 
 /// A reference for each column in order, for which gates are put to the list.
 fn take_all(alloc: Global, signals: &mut Signals, columns: &[Column]) -> Result<Vec<Ref>, Memory>
-    requires encodable { All (IsEncodable signals.old.codes signals.old.list.inputs) columns.now }
+    requires encodable { All (IsColumnOnCodes signals.old.codes signals.old.list.inputs) columns.now }
     requires inputs { (1 ≤ signals.old.list.inputs) × (signals.old.list.inputs ≤ BIT_LIMIT) }
-    requires few { length columns.now ≤ TEMPLATE_LIMIT }
+    requires few { length columns.now ≤ COLUMN_LIMIT }
     requires few_codes { length signals.old.codes ≤ SCENARIO_LIMIT }
     requires no_gate { signals.old.list.gates ≡ [] }
     ensures { IfOk result (λ refs. TakesAll signals.old.codes signals.old.list columns.now signals.new.list refs.items) }
@@ -82,7 +91,7 @@ fn take_all(alloc: Global, signals: &mut Signals, columns: &[Column]) -> Result<
 
 /// A reference for a column, for which gates are put to the list.
 fn take_column(alloc: Global, signals: &mut Signals, column: &Column) -> Result<Ref, Memory>
-    requires encodable { IsEncodable signals.old.codes signals.old.list.inputs column.now }
+    requires encodable { IsColumnOnCodes signals.old.codes signals.old.list.inputs column.now }
     requires room { length signals.old.list.gates < 2 ^ 30 }
     ensures takes { IfOk result (Takes signals.old.codes signals.old.list column.now signals.new.list) }
     ensures codes { signals.new.codes ≡ signals.old.codes }
@@ -107,7 +116,7 @@ fn by_minterms(alloc: Global, signals: &mut Signals, column: &Column) -> Result<
     requires gates { IsGateList signals.old.list }
     requires inputs { 2 ≤ signals.old.list.inputs }
     requires few_inputs { signals.old.list.inputs ≤ BIT_LIMIT }
-    requires encodable { IsEncodable signals.old.codes signals.old.list.inputs column.now }
+    requires encodable { IsColumnOnCodes signals.old.codes signals.old.list.inputs column.now }
     requires room { length signals.old.list.gates < 2 ^ 30 }
     ensures minterms { IfOk result (IsMintermsRef signals.old.codes signals.old.list column.now signals.new.list) }
     ensures codes { signals.new.codes ≡ signals.old.codes }

@@ -18,7 +18,7 @@ mod tests;
 pub use codes::{CodesFault, free_patterns, least_codes};
 pub use cpog_defs::types::{Gate, Ref};
 pub use encoding::Encoding;
-pub use first::{FirstEncoding, first_encode};
+pub use first::{COLUMN_LIMIT, FirstEncoding, column_limit_is_this, first_encode};
 pub use gate_list::GateList;
 pub use graph::ConditionalGraph;
 pub use laws::{

@@ -22,7 +22,9 @@ wires_at [] v = refl
 wires_at (r ∷ row) zero = refl
 wires_at (r ∷ row) (suc v) = wires_at row v
 
-pub wires_of_rows : (rows : List (List Ref)) (u v : ℕ) → slice_index_or (slice_index_or (map (map unless_zero) rows) u []) v None ≡ unless_zero (slice_index_or (slice_index_or rows u []) v (Const false))
+pub wires_of_rows : (rows : List (List Ref)) (u v : ℕ) →
+    slice_index_or (slice_index_or (map (map unless_zero) rows) u []) v None ≡ unless_zero
+    (slice_index_or (slice_index_or rows u []) v (Const false))
 wires_of_rows [] u v = refl
 wires_of_rows (row ∷ rows) zero v = wires_at row v
 wires_of_rows (row ∷ rows) (suc u) v = wires_of_rows rows u v
@@ -46,7 +48,9 @@ is_wired graph u v = is_some (unless_zero (arc_ref graph u v))
 pub first_past : (graph : ConditionalGraph) (u v : ℕ) → length graph.arcs ≤ u → arc_ref graph u v ≡ Const false
 first_past graph u v past = ap (λ row. slice_index_or row v (Const false)) (get_or_past graph.arcs u [] past)
 
-pub second_past : (graph : ConditionalGraph) (count u v : ℕ) → length graph.arcs ≡ count → ((a : ℕ) → a < count → length (slice_index_or graph.arcs a []) ≡ count) → count ≤ v → arc_ref graph u v ≡ Const false
+pub second_past : (graph : ConditionalGraph) (count u v : ℕ) → length graph.arcs ≡ count →
+    ((a : ℕ) → a < count → length (slice_index_or graph.arcs a []) ≡ count) → count ≤ v →
+    arc_ref graph u v ≡ Const false
 second_past graph count u v arcs rows past = elim (cases_lt u count) [
   | inl l ↦ get_or_past (slice_index_or graph.arcs u []) v (Const false) (omega (arith, rows u l, past))
   | inr g ↦ first_past graph u v (omega (arith, arcs, g))
@@ -127,7 +131,9 @@ module _ (e : Encoding) (is : IsEncoding (length e.graph.ops) e) where
       }
 
 same_parts : {gates gates' : GateList} {conditions conditions' : List Ref} {wires wires' : List (List (Option Ref))} (waits : List Set) → gates ≡ gates' → conditions ≡ conditions' → wires ≡ wires' →
-    let whole : GateList → List Ref → List (List (Option Ref)) → Netlist = λ a b c. record { gates = a; conditions = b; wires = c; waits = waits } in whole gates conditions wires ≡ whole gates' conditions' wires'
+    let whole : GateList → List Ref → List (List (Option Ref)) → Netlist =
+    λ a b c. record { gates = a; conditions = b; wires = c; waits = waits } in
+    whole gates conditions wires ≡ whole gates' conditions' wires'
 same_parts waits p q r = rw (p, q, r) refl
 
 -- the same of parts that equal an encoding's

@@ -6,3 +6,4 @@ pub mod EncodedLemmas
 pub mod StepLemmas
 pub mod SettleLemmas
 pub mod MissingLemmas
+pub mod ComparingLemmas

@@ -66,7 +66,9 @@ kept_tells graph values u v h =
     let a = and_parts _ _ h in let b = and_parts _ _ a.1 in let c = and_parts _ _ b.1 in
     record { first = b.0; second = c.0; itself = c.1 }
 
-kept_arc : (graph : ConditionalGraph) (values : List Bool) (u v : ℕ) → u ≢ v → IsTrue (keeps graph values u) → IsTrue (keeps graph values v) → IsTrue (ref_value values (arc_ref graph u v)) → IsTrue (keeps_arc graph values u v)
+kept_arc : (graph : ConditionalGraph) (values : List Bool) (u v : ℕ) → u ≢ v → IsTrue (keeps graph values u) →
+    IsTrue (keeps graph values v) → IsTrue (ref_value values (arc_ref graph u v)) →
+    IsTrue (keeps_arc graph values u v)
 kept_arc graph values u v ne a b c = and_from _ _ (not_from_false _ (ne_eqb u v ne)) (and_from _ _ a (and_from _ _ b c))
 
 module _ (e : Encoding) (n : Netlist) (nl : IsNetlistOf e n) (values : List Bool) (o : Order) (ord : IsOrderOf (length e.graph.ops) o)

@@ -43,7 +43,9 @@ module _ (orders : List Order) (codes : List ℕ) where
   not_finished s acked o (Running t other) at none h = h
   not_finished s acked o (Returning t other) at none h = none (order_of orders s.0 o (AllAcked acked) at h.1)
 
-  pub not_acknowledged : (s : ScenId) (acked : Set) (v : OpId) (o : Order) (m : Machine) → slice_get orders s.0 ≡ Some o → (IsReady acked v.0 o → set.contains acked v.0 ≡ false → ⊥) → Step orders codes (Running s acked) (Ack v) m → ⊥
+  pub not_acknowledged : (s : ScenId) (acked : Set) (v : OpId) (o : Order) (m : Machine) →
+      slice_get orders s.0 ≡ Some o → (IsReady acked v.0 o → set.contains acked v.0 ≡ false → ⊥) →
+      Step orders codes (Running s acked) (Ack v) m → ⊥
   not_acknowledged s acked v o Idle at none h = h
   not_acknowledged s acked v o (Running t other) at none h = none (order_of orders s.0 o (IsReady acked v.0) at h.1) h.2
   not_acknowledged s acked v o (Returning t other) at none h = h
@@ -115,7 +117,8 @@ is_found orders codes old event r P same within f h = record {
 }
 
 -- the order of the running scenario is there
-pub order_there : (orders : List Order) (s : ScenId) (acked : Set) (m : Machine) (o : Order) → m ≡ Running s acked → IsMachineOf (length orders) m → o ≡ slice_index_or orders s.0 o → slice_get orders s.0 ≡ Some o
+pub order_there : (orders : List Order) (s : ScenId) (acked : Set) (m : Machine) (o : Order) → m ≡ Running s acked →
+    IsMachineOf (length orders) m → o ≡ slice_index_or orders s.0 o → slice_get orders s.0 ≡ Some o
 order_there orders s acked m o is within at =
     let l : s.0 < length orders = subst (IsMachineOf (length orders)) is within in
     slice_get-get_or orders s.0 o l ∙ ap Some (sym at)

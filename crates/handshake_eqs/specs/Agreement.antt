@@ -13,6 +13,7 @@ use Rattle.handshake_eqs.specs.declared.wires.Inputs.{Inputs}
 use Rattle.handshake_eqs.specs.Netlists.{Netlist, condition_of, wire_of, waits_of}
 use Rattle.handshake_eqs.specs.Machines.{Run, IsRequested, IsDone}
 
+-- the value of an operation's condition
 abbrev pub condition_value : Netlist → List Bool → ℕ → Bool
 condition_value n values v = ref_value values (condition_of n v)
 
@@ -23,16 +24,19 @@ wire_value values (Some r) = ref_value values r
 
 -- u is acknowledged, or its condition is 0, or that of the arc to v is
 abbrev pub arc_satisfied : Netlist → List Bool → Set → ℕ → ℕ → Bool
-arc_satisfied n values acks v u = set.contains acks u || (not (condition_value n values u) || not (wire_value values (wire_of n u v)))
+arc_satisfied n values acks v u =
+    set.contains acks u || (not (condition_value n values u) || not (wire_value values (wire_of n u v)))
 
 -- v's condition is 1, and each that it waits for is satisfied
 abbrev pub request_enabled : Netlist → List Bool → Set → ℕ → Bool
 request_enabled n values acks v =
-    condition_value n values v && all_below (λ u. not (set.contains (waits_of n v) u) || arc_satisfied n values acks v u) (length n.conditions)
+    condition_value n values v
+    && all_below (λ u. not (set.contains (waits_of n v) u) || arc_satisfied n values acks v u) (length n.conditions)
 
 -- each operation is acknowledged, or its condition is 0
 abbrev pub all_acknowledged : Netlist → List Bool → Set → Bool
-all_acknowledged n values acks = all_below (λ v. set.contains acks v || not (condition_value n values v)) (length n.conditions)
+all_acknowledged n values acks =
+    all_below (λ v. set.contains acks v || not (condition_value n values v)) (length n.conditions)
 
 -- the request of an operation: go, and enabled
 abbrev pub request : Netlist → Inputs → ℕ → Bool

@@ -12,7 +12,8 @@ use Rattle.handshake_eqs.specs.Agreement.{AgreesOverRuns}
 
 -- over every run of lawful events, the netlist of an encoding that fits agrees with the state
 abbrev pub NetlistAgreesOverRuns : Type 0
-NetlistAgreesOverRuns = (e : Encoding) (n : Netlist) → IsEncoding (length e.graph.ops) e → IsNetlistOf e n → AgreesOverRuns e n
+NetlistAgreesOverRuns =
+    (e : Encoding) (n : Netlist) → IsEncoding (length e.graph.ops) e → IsNetlistOf e n → AgreesOverRuns e n
 
 -- every run keeps the acknowledged set closed while running, and within the scenario and not empty while returning
 abbrev pub RunsKeep : Type 0
@@ -24,4 +25,5 @@ RunsKeep =
 abbrev pub StepsAreUnique : Type 0
 StepsAreUnique =
     (orders : List Order) (codes : List ℕ) → AllPairs (λ a b. a ≢ b) codes →
-    (old : Machine) (event : Event) (a b : Machine) → Step orders codes old event a → Step orders codes old event b → a ≡ b
+    (old : Machine) (event : Event) (a b : Machine) → Step orders codes old event a → Step orders codes old event b →
+    a ≡ b

@@ -26,17 +26,20 @@ abbrev pub Step : List Order → List ℕ → Machine → Event → Machine → 
 Step orders codes Idle (Start word) (Running s acked) = (slice_get codes s.0 ≡ Some word) × (acked ≡ set.empty)
 Step orders codes (Running s acked) (Ack v) (Running t more) =
     (t ≡ s) × Of orders s.0 (IsReady acked v.0) × (set.contains acked v.0 ≡ false) × (more ≡ set.insert acked v.0)
-Step orders codes (Running s acked) Finish (Returning t same) = (t ≡ s) × Of orders s.0 (AllAcked acked) × (acked ≢ set.empty) × (same ≡ acked)
+Step orders codes (Running s acked) Finish (Returning t same) =
+    (t ≡ s) × Of orders s.0 (AllAcked acked) × (acked ≢ set.empty) × (same ≡ acked)
 Step orders codes (Running s acked) Finish Idle = Of orders s.0 (AllAcked acked) × (acked ≡ set.empty)
 Step orders codes (Returning s acked) (Drop v) (Returning t less) =
     (t ≡ s) × IsTrue (set.contains acked v.0) × (less ≡ set.remove acked v.0) × (less ≢ set.empty)
-Step orders codes (Returning s acked) (Drop v) Idle = IsTrue (set.contains acked v.0) × (set.remove acked v.0 ≡ set.empty)
+Step orders codes (Returning s acked) (Drop v) Idle =
+    IsTrue (set.contains acked v.0) × (set.remove acked v.0 ≡ set.empty)
 Step orders codes old event new = ⊥
 
 -- a run of lawful events
 abbrev pub Run : List Order → List ℕ → Machine → List Event → Machine → Type 0
 Run orders codes old [] new = new ≡ old
-Run orders codes old (event ∷ events) new = (mid : Machine) × Step orders codes old event mid × Run orders codes mid events new
+Run orders codes old (event ∷ events) new =
+    (mid : Machine) × Step orders codes old event mid × Run orders codes mid events new
 
 -- only operations of the scenario, and with an operation all that are before it
 pub record IsClosed (acked : Set) (o : Order) : Type 0 where

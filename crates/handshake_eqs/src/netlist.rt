@@ -4,7 +4,7 @@ ghost use Rattle.cpog_defs.specs.declared.types.Ref.TheVariants.{Const};
 ghost use Rattle.cpog_defs.specs.Gates.{signal_count, IsRefOver};
 ghost use Rattle.handshake_eqs.specs.Netlists.{IsNetlist, condition_of, wire_of, waits_of};
 
-use cpog_base::{Memory, OpId, OpSet};
+use cpog_base::{BIT_LIMIT, Memory, OpId, OpSet};
 use gate_core::{GateList, Ref};
 use std::alloc::Global;
 use std::marker::Model;
@@ -123,7 +123,7 @@ impl Netlist {
     /// How many inputs the gates have: the bits of a code.
     pub fn bits(&self) -> u8
         ensures bits { result ≡ self.now.gates.inputs }
-        ensures few { self.now.gates.inputs ≤ 8 }
+        ensures few { self.now.gates.inputs ≤ BIT_LIMIT }
     {
         self.gates.inputs()
     }

@@ -10,7 +10,8 @@ pub cons_parts : {X : Type 0} (x y : X) (xs ys : List X) → (x ∷ xs) ≡ (y �
 cons_parts x y xs ys e = (cc, cc)
 
 -- a first part of elements that pass, before elements that don't
-pub parted : {X : Type 0} (p : X → Bool) (xs ys zs ws : List X) → AllByRecursion (λ x. p x ≡ true) xs → AllByRecursion (λ x. p x ≡ true) ys → AllByRecursion (λ x. p x ≡ false) zs → AllByRecursion (λ x. p x ≡ false) ws
+pub parted : {X : Type 0} (p : X → Bool) (xs ys zs ws : List X) → AllByRecursion (λ x. p x ≡ true) xs →
+    AllByRecursion (λ x. p x ≡ true) ys → AllByRecursion (λ x. p x ≡ false) zs → AllByRecursion (λ x. p x ≡ false) ws
     → xs ++ zs ≡ ys ++ ws → (xs ≡ ys) × (zs ≡ ws)
 parted p [] [] zs ws hx hy hz hw e = (refl, e)
 parted p [] (y ∷ ys) [] ws hx hy hz hw e = absurd cc
@@ -33,7 +34,7 @@ some_push [] x e = cc
 some_push (y ∷ ys) x e = cc
 
 -- what holds below n and of n holds below n + 1
-below_suc : (P : ℕ → Type 0) (n : ℕ) → ((k : ℕ) → k < n → P k) → P n → (k : ℕ) → k < suc n → P k
+pub below_suc : (P : ℕ → Type 0) (n : ℕ) → ((k : ℕ) → k < n → P k) → P n → (k : ℕ) → k < suc n → P k
 below_suc P n h last k lt = elim (cases_lt k n) [ inl l ↦ h k l | inr g ↦ (let e : n ≡ k = omega arith in subst P e last) ]
 
 -- there are as many numbers, and each has its element

@@ -10,7 +10,7 @@ use Rattle.std.proofs.lemmas.Str.Parse.{digit_from_value}
 use Rattle.line_text.proofs.TellingLemmas.{tails}
 use Rattle.netlist_verilog.specs.Module.{ModuleValue, IsModule, IsWireOf, called}
 use Rattle.netlist_verilog.specs.Wires.{Wire, Signal, Go, Acknowledge, Request, Done, Idle, Condition, ArcCondition, name_of, signal_text}
-use Rattle.netlist_verilog.proofs.WordLemmas.{digits_told, signal_cases, signal_is, name_is}
+use Rattle.netlist_verilog.proofs.WordLemmas.{decimal_told, signal_cases, signal_is, name_is}
 
 -- ---- the kind of a wire, which its first two bytes tell
 
@@ -63,9 +63,11 @@ kind_told m (ArcCondition u v) is lt = refl
 same_name : (m : ModuleValue) (u v b : ℕ) → IsModule m → u < length m.netlist.conditions → v < length m.netlist.conditions → (b ∷ 95 ∷ name_of m.names u) ≡ (b ∷ 95 ∷ name_of m.names v) → u ≡ v
 same_name m u v b is hu hv e = name_is m.names u v is.distinct (omega (arith, hu, is.one_name_each)) (omega (arith, hv, is.one_name_each)) (tails 95 95 _ _ (tails b b _ _ e))
 
-same_pair : (m : ModuleValue) (t u v w : ℕ) → IsModule m → IsWireOf m (ArcCondition t u) → IsWireOf m (ArcCondition v w) → called m (ArcCondition t u) ≡ called m (ArcCondition v w) → ArcCondition t u ≡ ArcCondition v w
+same_pair : (m : ModuleValue) (t u v w : ℕ) → IsModule m → IsWireOf m (ArcCondition t u) →
+    IsWireOf m (ArcCondition v w) → called m (ArcCondition t u) ≡ called m (ArcCondition v w) →
+    ArcCondition t u ≡ ArcCondition v w
 same_pair m t u v w is h k e =
-    let r = digits_told t v 95 (decimal u) (decimal w) (omega (arith, h.0, is.netlist.few)) (omega (arith, k.0, is.netlist.few)) refl (tails 101 101 _ _ e) in
+    let r = decimal_told t v 95 (decimal u) (decimal w) (omega (arith, h.0, is.netlist.few)) (omega (arith, k.0, is.netlist.few)) refl (tails 101 101 _ _ e) in
     ap₂ ArcCondition r.0 (decimal_injective u w (omega (arith, h.1, is.netlist.few)) (omega (arith, k.1, is.netlist.few)) r.1)
 
 of_one_kind : (m : ModuleValue) (w z : Wire) → IsModule m → IsWireOf m w → IsWireOf m z → kind w ≡ kind z → called m w ≡ called m z → w ≡ z

@@ -139,7 +139,9 @@ known_longer n i j w le h = elim (Contains-append_cases (input_wires n) (take i 
 
 -- behind the equations of all inner wires these are known
 inner_known : (n : Netlist) (w : Wire) → Contains (inner_wires n) w → Contains (known_at n (length (inner_wires n))) w
-inner_known n w h = Contains-append_right (input_wires n) (take (length (inner_wires n)) (inner_wires n)) w (subst (λ ws. Contains ws w) (sym (take_all (length (inner_wires n)) (inner_wires n) (omega arith))) h)
+inner_known n w h =
+    Contains-append_right (input_wires n) (take (length (inner_wires n)) (inner_wires n)) w
+    (subst (λ ws. Contains ws w) (sym (take_all (length (inner_wires n)) (inner_wires n) (omega arith))) h)
 
 condition_known : (n : Netlist) (v : ℕ) → v < length n.conditions → Contains (known_at n (length (inner_wires n))) (Condition v)
 condition_known n v lt =
@@ -155,7 +157,9 @@ arc_known n u v lu lv some =
     let count : ℕ = length n.conditions in
     inner_known n (ArcCondition u v) (Contains-append_right (signals_from n.gates.inputs (length n.gates.gates)) (for_each Condition count ++ arc_wires n) (ArcCondition u v)
     (Contains-append_right (for_each Condition count) (arc_wires n) (ArcCondition u v)
-    (in_each_below (λ a. arc_wires_from n a count) count u (ArcCondition u v) lu (in_each_below (λ b. arc_wire u b (wire_of n u b)) count v (ArcCondition u v) lv (in_arc_wire u v (wire_of n u v) some)))))
+    (in_each_below (λ a. arc_wires_from n a count) count u (ArcCondition u v) lu
+    (in_each_below (λ b. arc_wire u b (wire_of n u b)) count v (ArcCondition u v) lv
+    (in_arc_wire u v (wire_of n u v) some)))))
 
 -- ---- what equations speak of
 
@@ -174,7 +178,9 @@ speak_joined n before xs ys hx hy i d lt = elim (cases_lt i (length xs)) [
   | inl l ↦ rw (get_or_append_left xs ys d i l) (hx i d l)
   | inr from ↦ (
       let e : (before + length xs) + (i - length xs) ≡ before + i = omega arith in
-      rw (get_or-append_right xs ys (length xs) i d refl from) (subst (λ k. SpeaksOf (known_at n k) (get_or ys (i - length xs) d)) e (hy (i - length xs) d (omega (arith, lt, from, length-append xs ys)))))
+      rw (get_or-append_right xs ys (length xs) i d refl from)
+      (subst (λ k. SpeaksOf (known_at n k) (get_or ys (i - length xs) d)) e
+      (hy (i - length xs) d (omega (arith, lt, from, length-append xs ys)))))
 ]
 
 -- equations that speak of what is known earlier
@@ -211,7 +217,15 @@ reads_signals n r over = ref_reads (Contains (known_at n (length n.gates.gates))
 conditions_speak : (m : ModuleValue) → IsModule m → SpeakOfSignals m.netlist (condition_part m.netlist)
 conditions_speak m is =
     let n : Netlist = m.netlist in
-    parts_below (SpeaksOf (known_at n (length n.gates.gates))) (λ v. condition_equation v (condition_of n v) ∷ []) (length n.conditions) (λ v lt. (record { read = reads_signals n (condition_of n v) (is.netlist.conditions_over v); named = tt }, tt))
+    parts_below (SpeaksOf (known_at n (length n.gates.gates))) (λ v. condition_equation v (condition_of n v) ∷ [])
+    (length n.conditions) (λ v lt. (
+      record {
+        read = reads_signals n (condition_of n v)
+            (is.netlist.conditions_over v);
+        named = tt;
+      },
+      tt,
+    ))
 
 arc_speaks : (n : Netlist) (u v : ℕ) (w : Option Ref) → IsWireOver (signal_count n.gates) w → SpeakOfSignals n (arc_equation u v w)
 arc_speaks n u v None over = tt
@@ -235,7 +249,10 @@ outputs_speak m is =
     parts_joined (SpeaksOf (known_at n all)) (request_part n) (end_part n)
     (parts_below (SpeaksOf (known_at n all)) (λ v. request_equation n v ∷ []) count (λ v lv. (
       record {
-        read = each_reads P _ (set.contains (waits_of n v)) (arc_formula v) count (go_known n all, condition_known n v lv) (λ u lu waits. (through u lu, arc_known n u v lu lv (is.netlist.declared u v waits)));
+        read =
+            each_reads P _ (set.contains (waits_of n v)) (arc_formula v) count
+            (go_known n all, condition_known n v lv)
+            (λ u lu waits. (through u lu, arc_known n u v lu lv (is.netlist.declared u v waits)));
         named = tt;
       },
       tt,
@@ -251,7 +268,9 @@ equations_speak m is =
     let so_many : length (gate_equations n.gates) ≡ gates = length_ones (λ g. gate_equation n.gates.inputs g (gate_at n.gates g)) gates in
     let inner : length (inner_part n) ≡ length (inner_wires n) = sym (length-map (inner_part n) (λ (e : Equation). e.wire)) ∙ ap length (inner_assigned n) in
     let later : SpeakBehind n (0 + length (gate_equations n.gates)) (condition_part n ++ arc_part n) =
-    speak_all n gates _ (condition_part n ++ arc_part n) (omega (arith, so_many)) (parts_joined (SpeaksOf (known_at n gates)) (condition_part n) (arc_part n) (conditions_speak m is) (arcs_speak m is)) in
+    speak_all n gates _ (condition_part n ++ arc_part n) (omega (arith, so_many))
+    (parts_joined (SpeaksOf (known_at n gates)) (condition_part n) (arc_part n) (conditions_speak m is)
+    (arcs_speak m is)) in
     subst (SpeakBehind n 0) (parts_regrouped n)
     (speak_joined n 0 (inner_part n) (request_part n ++ end_part n) (speak_joined n 0 (gate_equations n.gates) (condition_part n ++ arc_part n) (gates_speak m is) later)
     (speak_all n (length (inner_wires n)) _ (request_part n ++ end_part n) (omega (arith, inner)) (outputs_speak m is)))

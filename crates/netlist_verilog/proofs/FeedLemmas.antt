@@ -30,7 +30,8 @@ name_passes (n ∷ ns) (suc v) h = name_passes ns v h.1
 
 -- ---- wires and equations
 
-signal_free : (inputs n : ℕ) → n < 2 ^ 64 → NoFeed (signal_text inputs n)
+-- a signal holds none
+pub signal_free : (inputs n : ℕ) → n < 2 ^ 64 → NoFeed (signal_text inputs n)
 signal_free inputs n lt = chosen (nat_lt n inputs)
   where
     chosen : (b : Bool) → NoFeed (cond b (codes "x" ++ decimal n) (codes "g" ++ decimal (n - inputs)))
@@ -50,7 +51,8 @@ wire_free m Idle is own = clean_free (codes "idle") refl
 wire_free m (Condition v) is own = clean_front (codes "c_") (name_of m.names v) refl (name_free m v is)
 wire_free m (ArcCondition u v) is own =
     clean_front (codes "e") (decimal u ++ (codes "_" ++ decimal v)) refl
-    (joined_free (decimal u) (codes "_" ++ decimal v) (decimal_free u (omega (arith, own.0, is.netlist.few))) (clean_front (codes "_") (decimal v) refl (decimal_free v (omega (arith, own.1, is.netlist.few)))))
+    (joined_free (decimal u) (codes "_" ++ decimal v) (decimal_free u (omega (arith, own.0, is.netlist.few)))
+    (clean_front (codes "_") (decimal v) refl (decimal_free v (omega (arith, own.1, is.netlist.few)))))
 
 grouped_free : (least tight : ℕ) (t : List ℕ) → NoFeed t → NoFeed (grouped least tight t)
 grouped_free least tight t h = chosen (nat_lt tight least)
@@ -68,16 +70,22 @@ formula_free m (Bit true) is h = clean_free (codes "1'b1") refl
 formula_free m (Read w) is h = wire_free m w is h
 formula_free m (Not f) is h = clean_front (codes "~") _ refl (grouped_free 4 (tightness f) (formula_text m.netlist.gates.inputs m.names f) (formula_free m f is h))
 formula_free m (And f g) is h =
-    infix_free (codes " & ") _ _ refl (grouped_free 2 (tightness f) (formula_text m.netlist.gates.inputs m.names f) (formula_free m f is h.0)) (grouped_free 3 (tightness g) (formula_text m.netlist.gates.inputs m.names g) (formula_free m g is h.1))
+    infix_free (codes " & ") _ _ refl (grouped_free 2 (tightness f) (formula_text m.netlist.gates.inputs m.names f)
+    (formula_free m f is h.0)) (grouped_free 3 (tightness g) (formula_text m.netlist.gates.inputs m.names g)
+    (formula_free m g is h.1))
 formula_free m (Xor f g) is h =
-    infix_free (codes " ^ ") _ _ refl (grouped_free 1 (tightness f) (formula_text m.netlist.gates.inputs m.names f) (formula_free m f is h.0)) (grouped_free 2 (tightness g) (formula_text m.netlist.gates.inputs m.names g) (formula_free m g is h.1))
+    infix_free (codes " ^ ") _ _ refl (grouped_free 1 (tightness f) (formula_text m.netlist.gates.inputs m.names f)
+    (formula_free m f is h.0)) (grouped_free 2 (tightness g) (formula_text m.netlist.gates.inputs m.names g)
+    (formula_free m g is h.1))
 formula_free m (Or f g) is h =
     infix_free (codes " | ") _ _ refl (formula_free m f is h.0) (grouped_free 1 (tightness g) (formula_text m.netlist.gates.inputs m.names g) (formula_free m g is h.1))
 
 comment_free : (m : ModuleValue) (c : Option (Wire × Wire)) → IsModule m → NamesOnly (IsWireOf m) c → NoFeed (comment_text m.netlist.gates.inputs m.names c)
 comment_free m None is h = tt
 comment_free m (Some both) is h =
-    clean_front (codes " /* ") _ refl (joined_free _ _ (wire_free m both.0 is h.0) (clean_front (codes " ") _ refl (joined_free _ (codes " */") (wire_free m both.1 is h.1) (clean_free (codes " */") refl))))
+    clean_front (codes " /* ") _ refl (joined_free _ _ (wire_free m both.0 is h.0)
+    (clean_front (codes " ") _ refl (joined_free _ (codes " */") (wire_free m both.1 is h.1)
+    (clean_free (codes " */") refl))))
 
 row_free : (m : ModuleValue) (e : Equation) → IsModule m → IsEquationOf m e → NoFeed (equation_row m.netlist.gates.inputs m.names e)
 row_free m e is h =

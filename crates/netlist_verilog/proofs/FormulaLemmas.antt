@@ -32,7 +32,9 @@ ref_reads P signals hs (references.Const b) h = tt
 ref_reads P signals hs (references.Signal n false) h = hs n h
 ref_reads P signals hs (references.Signal n true) h = hs n h
 
-pub each_reads : (P : Wire → Type 0) (first : Formula) (passes : ℕ → Bool) (each : ℕ → Formula) (n : ℕ) → ReadsOnly P first → ((k : ℕ) → k < n → passes k ≡ true → ReadsOnly P (each k)) → ReadsOnly P (and_each first passes each n)
+pub each_reads : (P : Wire → Type 0) (first : Formula) (passes : ℕ → Bool) (each : ℕ → Formula) (n : ℕ) →
+    ReadsOnly P first → ((k : ℕ) → k < n → passes k ≡ true → ReadsOnly P (each k)) →
+    ReadsOnly P (and_each first passes each n)
 each_reads P first passes each zero h hs = h
 each_reads P first passes each (suc n) h hs = chosen (passes n) refl (each_reads P first passes each n h (λ k lt. hs k (omega arith)))
   where

@@ -10,6 +10,7 @@ use Rattle.cpog_defs.specs.declared.types.Ref.TheVariants as references
 use Rattle.cpog_defs.specs.declared.types.Ref.TheVariants.{Const}
 use Rattle.cpog_defs.specs.Codes.{bit}
 use Rattle.cpog_defs.specs.Gates.{IsRefOver}
+use Rattle.gate_core.proofs.GateLemmas.{gate_by_parts}
 use Rattle.line_text.proofs.TellingLemmas.{apart, heads, tails}
 use Rattle.netlist_verilog.specs.Wires.{Signal, signal_text, wire_text}
 use Rattle.netlist_verilog.specs.Formulas.{Formula, formula_text, comment_text, equation_row}
@@ -39,7 +40,8 @@ same_alone r s p q m n a b c = λ i. Alone (a i) (b i) (c i)
 same_joined : (o p : ℕ) (r s t u : Ref) → o ≡ p → r ≡ t → s ≡ u → Joined o r s ≡ Joined p t u
 same_joined o p r s t u a b c = λ i. Joined (a i) (b i) (c i)
 
-shape_told : (inputs : ℕ) (names : List (List ℕ)) (signals : ℕ) (s t : Shape) → signals ≤ 2 ^ 64 → FitsShape signals s → FitsShape signals t → shape_text inputs names s ≡ shape_text inputs names t → s ≡ t
+shape_told : (inputs : ℕ) (names : List (List ℕ)) (signals : ℕ) (s t : Shape) → signals ≤ 2 ^ 64 →
+    FitsShape signals s → FitsShape signals t → shape_text inputs names s ≡ shape_text inputs names t → s ≡ t
 shape_told inputs names signals (Alone r p q) (Alone s m n) fit hs ht e =
     let first = ref_told inputs names signals r s 32 _ _ fit hs.0 ht.0 refl e in
     let second = signal_told inputs p m 32 _ _ (omega (arith, hs.1, fit)) (omega (arith, ht.1, fit)) refl (tails 32 32 _ _ (tails 42 42 _ _ (tails 47 47 _ _ first.1))) in
@@ -101,12 +103,17 @@ shaped : (inputs : ℕ) (names : List (List ℕ)) (signals : ℕ) (b0 b1 b2 b3 :
 shaped inputs names signals b0 b1 b2 b3 j k lower earlier = row b0 b1 b2 b3
   where
     one : {b0 b1 b2 b3 : Bool} (r : Ref) → IsRefOver signals r → parts_of (Alone r j k) ≡ (b0, b1, b2, b3, j, k)
-        → shown inputs names (gate_formula b0 b1 b2 b3 (Signal j) (Signal k)) j k ≡ ref_text inputs names r ++ (comment_text inputs names (Some (Signal j, Signal k)) ++ codes ";") → IsShaped inputs names signals b0 b1 b2 b3 j k
+        → shown inputs names (gate_formula b0 b1 b2 b3 (Signal j) (Signal k)) j k ≡ ref_text inputs names r ++
+        (comment_text inputs names (Some (Signal j, Signal k)) ++ codes ";") →
+        IsShaped inputs names signals b0 b1 b2 b3 j k
     one r over parts text =
         record { shape = Alone r j k; fits = (over, omega arith, earlier); text = text ∙ alone_text (ref_text inputs names r) (signal_text inputs j) (signal_text inputs k); parts = parts }
 
     two : {b0 b1 b2 b3 : Bool} (op : ℕ) (a b : Bool) → eqb op 47 ≡ false → two_parts op (references.Signal j a) (references.Signal k b) ≡ (b0, b1, b2, b3, j, k)
-        → shown inputs names (gate_formula b0 b1 b2 b3 (Signal j) (Signal k)) j k ≡ (ref_text inputs names (references.Signal j a) ++ (32 ∷ op ∷ 32 ∷ ref_text inputs names (references.Signal k b))) ++ codes ";" → IsShaped inputs names signals b0 b1 b2 b3 j k
+        → shown inputs names (gate_formula b0 b1 b2 b3 (Signal j) (Signal k)) j k ≡
+        (ref_text inputs names (references.Signal j a) ++
+        (32 ∷ op ∷ 32 ∷ ref_text inputs names (references.Signal k b))) ++ codes ";" →
+        IsShaped inputs names signals b0 b1 b2 b3 j k
     two op a b not_comment parts text = record {
       shape = Joined op (references.Signal j a) (references.Signal k b);
       fits = (not_comment, omega arith, earlier);
@@ -134,7 +141,7 @@ shaped inputs names signals b0 b1 b2 b3 j k lower earlier = row b0 b1 b2 b3
 
 -- ---- a gate
 
-same_bit : (x y : ℕ) → x < 2 → y < 2 → eqb x 1 ≡ eqb y 1 → x ≡ y
+pub same_bit : (x y : ℕ) → x < 2 → y < 2 → eqb x 1 ≡ eqb y 1 → x ≡ y
 same_bit zero zero hx hy e = refl
 same_bit zero (suc zero) hx hy e = absurd cc
 same_bit zero (suc (suc y)) hx hy e = absurd (omega arith)
@@ -153,9 +160,6 @@ four P p0 p1 p2 p3 (suc (suc (suc (suc i)))) lt = absurd (omega arith)
 table_is : (t u : ℕ) → t < 16 → u < 16 → bit t 0 ≡ bit u 0 → bit t 1 ≡ bit u 1 → bit t 2 ≡ bit u 2 → bit t 3 ≡ bit u 3 → t ≡ u
 table_is t u ht hu e0 e1 e2 e3 = same_from_bits_below 4 t u ht hu (λ i lt. same_bit _ _ (bit_at-lt t i) (bit_at-lt u i) (four (λ i. bit t i ≡ bit u i) e0 e1 e2 e3 i lt))
 
-same_gate : (g h : Gate) → g.j ≡ h.j → g.k ≡ h.k → g.table ≡ h.table → g ≡ h
-same_gate g h a b c = λ i. record { j = a i; k = b i; table = c i }
-
 pub record IsGateBelow (signals : ℕ) (g : Gate) : Type 0 where
   pub lower : g.j < g.k
   pub earlier : g.k < signals
@@ -169,5 +173,5 @@ gate_told inputs names signals i g h fit hg hh e =
     let text = append_cancel_left (codes " = ") _ _ (append_cancel_left (wire_text inputs names (Signal (inputs + i))) _ _ (append_cancel_left (codes "  assign ") _ _ e)) in
     let shape = shape_told inputs names signals sg.shape sh.shape fit sg.fits sh.fits (sym sg.text ∙ text ∙ sh.text) in
     let parts = sym sg.parts ∙ ap parts_of shape ∙ sh.parts in
-    same_gate g h (ap (λ (p : Parts). p.4) parts) (ap (λ (p : Parts). p.5) parts)
+    gate_by_parts g h (ap (λ (p : Parts). p.4) parts) (ap (λ (p : Parts). p.5) parts)
     (table_is g.table h.table hg.table hh.table (ap (λ (p : Parts). p.0) parts) (ap (λ (p : Parts). p.1) parts) (ap (λ (p : Parts). p.2) parts) (ap (λ (p : Parts). p.3) parts))

@@ -8,8 +8,8 @@ use Rattle.std.proofs.lemmas.Bool.{cases_lt}
 use Rattle.std.proofs.lemmas.List.{ext_get_or, get_or_past}
 use Rattle.cpog_defs.specs.declared.types.Ref.{Ref}
 use Rattle.cpog_defs.specs.declared.types.Ref.TheVariants.{Const}
-use Rattle.cpog_defs.specs.Gates.{GateList, IsRefOver, signal_count}
-use Rattle.gate_core.proofs.GateLemmas.{gate_reads}
+use Rattle.cpog_defs.specs.Gates.{IsRefOver, signal_count}
+use Rattle.gate_core.proofs.GateLemmas.{gate_reads, gate_list_by_parts}
 use Rattle.handshake_eqs.specs.Netlists.{Netlist, condition_of, wire_of, waits_of, IsNetlist, IsWireOver}
 use Rattle.line_text.specs.Lines.{lines_of, text_of}
 use Rattle.line_text.proofs.SplittingLemmas.{lines_again}
@@ -40,10 +40,13 @@ renamed a b p e = ap₂ (λ inputs names. equation_row inputs names e) (sym p.in
 gate_below : (m : ModuleValue) → IsModule m → (g : ℕ) → g < length m.netlist.gates.gates → IsGateBelow (2 ^ 64) (gate_at m.netlist.gates g)
 gate_below m is g lt =
     let reads = gate_reads m.netlist.gates.inputs m.netlist.gates.gates g (record { j = 0; k = 0; table = 0 }) is.gates lt in
-    record { lower = reads.0; earlier = omega (arith, reads.1, lt, is.few_inputs, is.few_gates); table = table_small m.netlist.gates.gates m.netlist.gates.inputs g (record { j = 0; k = 0; table = 0 }) is.gates lt }
-
-same_gate_lists : (g h : GateList) → g.inputs ≡ h.inputs → g.gates ≡ h.gates → g ≡ h
-same_gate_lists g h p q = λ i. record { inputs = p i; gates = q i }
+    record {
+      lower = reads.0;
+      earlier = omega
+          (arith, reads.1, lt, is.few_inputs, is.few_gates);
+      table = table_small m.netlist.gates.gates m.netlist.gates.inputs g
+          (record { j = 0; k = 0; table = 0 }) is.gates lt;
+    }
 
 gates_told : (a b : ModuleValue) → IsModule a → IsModule b → SamePorts a b → SameRows a b → a.netlist.gates ≡ b.netlist.gates
 gates_told a b ia ib p rows =
@@ -51,7 +54,7 @@ gates_told a b ia ib p rows =
     let gb = b.netlist.gates in
     let ones = ones_told (λ g. row a (gate_equation ga.inputs g (gate_at ga g))) (λ g. row b (gate_equation gb.inputs g (gate_at gb g))) (length ga.gates) (length gb.gates)
     (sym (map_ones (row a) (λ g. gate_equation ga.inputs g (gate_at ga g)) (length ga.gates)) ∙ rows.gates ∙ map_ones (row b) (λ g. gate_equation gb.inputs g (gate_at gb g)) (length gb.gates)) in
-    same_gate_lists ga gb p.inputs (ext_get_or (record { j = 0; k = 0; table = 0 }) ga.gates gb.gates ones.0 (λ g lt.
+    gate_list_by_parts ga gb p.inputs (ext_get_or (record { j = 0; k = 0; table = 0 }) ga.gates gb.gates ones.0 (λ g lt.
     gate_told ga.inputs a.names (2 ^ 64) g (gate_at ga g) (gate_at gb g) (omega arith) (gate_below a ia g lt) (gate_below b ib g (omega (arith, lt, ones.0)))
     (ones.1 g lt ∙ ap₂ (λ inputs names. equation_row inputs names (gate_equation inputs g (gate_at gb g))) (sym p.inputs) (sym p.names))))
 
@@ -65,7 +68,8 @@ conditions_told a b ia ib p rows gates =
     let na : Netlist = a.netlist in
     let nb : Netlist = b.netlist in
     let ones = ones_told (λ v. row a (condition_equation v (condition_of na v))) (λ v. row b (condition_equation v (condition_of nb v))) (length na.conditions) (length nb.conditions)
-    (sym (map_ones (row a) (λ v. condition_equation v (condition_of na v)) (length na.conditions)) ∙ rows.conditions ∙ map_ones (row b) (λ v. condition_equation v (condition_of nb v)) (length nb.conditions)) in
+    (sym (map_ones (row a) (λ v. condition_equation v (condition_of na v)) (length na.conditions)) ∙ rows.conditions
+    ∙ map_ones (row b) (λ v. condition_equation v (condition_of nb v)) (length nb.conditions)) in
     ext_get_or (Const false) na.conditions nb.conditions ones.0 (λ v lt.
     condition_told na.gates.inputs a.names (signal_count na.gates) (Condition v) (condition_of na v) (condition_of nb v) (signals_fit a ia) (ia.netlist.conditions_over v)
     (subst (λ n. IsRefOver n (condition_of nb v)) (ap signal_count (sym gates)) (ib.netlist.conditions_over v)) (ones.1 v lt ∙ renamed a b p (condition_equation v (condition_of nb v))))
@@ -79,7 +83,9 @@ wires_told a b ia ib p rows gates =
     (rows.arcs ∙ ap₂ (λ inputs names. map (equation_row inputs names) (arc_part nb)) (sym p.inputs) (sym p.names)) in
     ext_get_or [] na.wires nb.wires (ia.netlist.wires ∙ p.count ∙ sym ib.netlist.wires) (λ u lt.
     let hu : u < length na.conditions = omega (arith, lt, ia.netlist.wires) in
-    ext_get_or None (get_or na.wires u []) (get_or nb.wires u []) (ia.netlist.rows u hu ∙ p.count ∙ sym (ib.netlist.rows u (omega (arith, hu, p.count)))) (λ v lt'. same u v hu (omega (arith, lt', ia.netlist.rows u hu))))
+    ext_get_or None (get_or na.wires u []) (get_or nb.wires u []) (ia.netlist.rows u hu ∙ p.count
+    ∙ sym (ib.netlist.rows u (omega (arith, hu, p.count))))
+    (λ v lt'. same u v hu (omega (arith, lt', ia.netlist.rows u hu))))
 
 -- ---- waits
 
@@ -109,7 +115,9 @@ waits_told a b ia ib p rows =
 
 -- ---- the whole module
 
-same_modules : (a b : ModuleValue) → a.names ≡ b.names → a.netlist.gates ≡ b.netlist.gates → a.netlist.conditions ≡ b.netlist.conditions → a.netlist.wires ≡ b.netlist.wires → a.netlist.waits ≡ b.netlist.waits → a ≡ b
+same_modules : (a b : ModuleValue) → a.names ≡ b.names → a.netlist.gates ≡ b.netlist.gates →
+    a.netlist.conditions ≡ b.netlist.conditions → a.netlist.wires ≡ b.netlist.wires →
+    a.netlist.waits ≡ b.netlist.waits → a ≡ b
 same_modules a b p q r s t = λ i. record { names = p i; netlist = record { gates = q i; conditions = r i; wires = s i; waits = t i } }
 
 -- two modules with the same text are one

@@ -43,12 +43,26 @@ line_end m (Some both) is h =
     let p = called m both.0 in
     let q = called m both.1 in
     let bytes : List ℕ = 32 ∷ (p ++ 32 ∷ (q ++ 32 ∷ [])) in
-    let free : HoldsNoEnd bytes = no_end bytes (blank_unstarred, parts_joined IsUnstarred p (32 ∷ (q ++ 32 ∷ [])) (called_unstarred m both.0 is h.0) (blank_unstarred, parts_joined IsUnstarred q (32 ∷ []) (called_unstarred m both.1 is h.1) (blank_unstarred, tt))) in
+    let free : HoldsNoEnd bytes =
+    no_end bytes (
+      blank_unstarred,
+      parts_joined IsUnstarred p (32 ∷ (q ++ 32 ∷ []))
+          (called_unstarred m both.0 is h.0) (
+            blank_unstarred,
+            parts_joined IsUnstarred q (32 ∷ []) (called_unstarred m both.1 is h.1) (blank_unstarred, tt),
+          ),
+    ) in
     let same : bytes ++ 42 ∷ 47 ∷ 59 ∷ [] ≡ 32 ∷ ((p ++ 32 ∷ (q ++ 32 ∷ 42 ∷ 47 ∷ [])) ++ 59 ∷ []) =
-    ap (λ (x : List ℕ). 32 ∷ x) (append_assoc p (32 ∷ (q ++ 32 ∷ [])) (42 ∷ 47 ∷ 59 ∷ []) ∙ ap (λ (x : List ℕ). p ++ 32 ∷ x) (append_assoc q (32 ∷ []) (42 ∷ 47 ∷ 59 ∷ []) ∙ sym (append_assoc q (32 ∷ 42 ∷ 47 ∷ []) (59 ∷ []))) ∙ sym (append_assoc p (32 ∷ (q ++ 32 ∷ 42 ∷ 47 ∷ [])) (59 ∷ []))) in
+    ap (λ (x : List ℕ). 32 ∷ x) (append_assoc p (32 ∷ (q ++ 32 ∷ [])) (42 ∷ 47 ∷ 59 ∷ [])
+    ∙ ap (λ (x : List ℕ). p ++ 32 ∷ x) (append_assoc q (32 ∷ []) (42 ∷ 47 ∷ 59 ∷ [])
+    ∙ sym (append_assoc q (32 ∷ 42 ∷ 47 ∷ []) (59 ∷ [])))
+    ∙ sym (append_assoc p (32 ∷ (q ++ 32 ∷ 42 ∷ 47 ∷ [])) (59 ∷ []))) in
     record {
       ends = blank_ends (47 ∷ 42 ∷ (32 ∷ ((p ++ 32 ∷ (q ++ 32 ∷ 42 ∷ 47 ∷ [])) ++ 59 ∷ [])));
-      spells = after_blank m (semicolon ∷ []) (47 ∷ 42 ∷ (32 ∷ ((p ++ 32 ∷ (q ++ 32 ∷ 42 ∷ 47 ∷ [])) ++ 59 ∷ []))) (subst (λ (x : List ℕ). Spells m (semicolon ∷ []) (47 ∷ 42 ∷ x)) same (after_comment m bytes (semicolon ∷ []) (59 ∷ []) free (plain_end m).spells));
+      spells =
+          after_blank m (semicolon ∷ []) (47 ∷ 42 ∷ (32 ∷ ((p ++ 32 ∷ (q ++ 32 ∷ 42 ∷ 47 ∷ [])) ++ 59 ∷ [])))
+          (subst (λ (x : List ℕ). Spells m (semicolon ∷ []) (47 ∷ 42 ∷ x)) same
+          (after_comment m bytes (semicolon ∷ []) (59 ∷ []) free (plain_end m).spells));
     }
 
 pub equation_read : (m : ModuleValue) (e : Equation) → IsModule m → IsEquationOf m e → IsAssignment m (equation_row m.netlist.gates.inputs m.names e) e.wire e.formula
@@ -59,11 +73,17 @@ equation_read m e is own =
     let end = line_end m e.comment is own.named in
     let right : Spells m xs (text m f ++ back) =
     subst (λ (ts : List Token). Spells m (ts ++ semicolon ∷ []) (text m f ++ back)) (sym (topped (level f) (expression f))) (spelled m f is own.read (semicolon ∷ []) back end.ends end.spells) in
-    let sign : Spells m (equals ∷ xs) (61 ∷ 32 ∷ (text m f ++ back)) = before m equals xs (32 ∷ (text m f ++ back)) tt (blank_ends (text m f ++ back) equals) (after_blank m xs (text m f ++ back) right) in
+    let sign : Spells m (equals ∷ xs) (61 ∷ 32 ∷ (text m f ++ back)) =
+    before m equals xs (32 ∷ (text m f ++ back)) tt (blank_ends (text m f ++ back) equals)
+    (after_blank m xs (text m f ++ back) right) in
     let wire : Spells m (name e.wire ∷ equals ∷ xs) (called m e.wire ++ 32 ∷ 61 ∷ 32 ∷ (text m f ++ back)) =
-    before m (name e.wire) (equals ∷ xs) (32 ∷ 61 ∷ 32 ∷ (text m f ++ back)) (wire_token m e.wire is own.assigned) (blank_ends (61 ∷ 32 ∷ (text m f ++ back)) (name e.wire)) (after_blank m (equals ∷ xs) (61 ∷ 32 ∷ (text m f ++ back)) sign) in
+    before m (name e.wire) (equals ∷ xs) (32 ∷ 61 ∷ 32 ∷ (text m f ++ back)) (wire_token m e.wire is own.assigned)
+    (blank_ends (61 ∷ 32 ∷ (text m f ++ back)) (name e.wire))
+    (after_blank m (equals ∷ xs) (61 ∷ 32 ∷ (text m f ++ back)) sign) in
     let left : List ℕ = called m e.wire ++ 32 ∷ 61 ∷ 32 ∷ (text m f ++ back) in
-    let word : Spells m (assign ∷ name e.wire ∷ equals ∷ xs) (codes "assign" ++ 32 ∷ left) = before m assign (name e.wire ∷ equals ∷ xs) (32 ∷ left) tt (blank_ends left assign) (after_blank m (name e.wire ∷ equals ∷ xs) left wire) in (
+    let word : Spells m (assign ∷ name e.wire ∷ equals ∷ xs) (codes "assign" ++ 32 ∷ left) =
+    before m assign (name e.wire ∷ equals ∷ xs) (32 ∷ left) tt (blank_ends left assign)
+    (after_blank m (name e.wire ∷ equals ∷ xs) left wire) in (
       top (level f) (expression f),
       after_blank m (assign ∷ name e.wire ∷ equals ∷ xs) (32 ∷ (codes "assign" ++ 32 ∷ left)) (after_blank m (assign ∷ name e.wire ∷ equals ∷ xs) (codes "assign" ++ 32 ∷ left) word),
       whole_formula f,

@@ -42,7 +42,8 @@ none_differ i j d l m = absurd (omega arith)
 one_differs : (w : Wire) → Differ (w ∷ [])
 one_differs w i j d l m = absurd (omega arith)
 
-spans_joined : (number : Wire → ℕ) (low middle high : ℕ) (xs ys : List Wire) → low ≤ middle → middle ≤ high → Spans number low middle xs → Spans number middle high ys → Spans number low high (xs ++ ys)
+spans_joined : (number : Wire → ℕ) (low middle high : ℕ) (xs ys : List Wire) → low ≤ middle → middle ≤ high →
+    Spans number low middle xs → Spans number middle high ys → Spans number low high (xs ++ ys)
 spans_joined number low middle high xs ys lm mh hx hy = record {
   once = pairs_joined (λ w z. w ≢ z) xs ys hx.once hy.once
       (weaker (IsWithin number low middle) (λ x. AllByRecursion (λ y. x ≢ y) ys)
@@ -124,7 +125,9 @@ gate_kind : (inputs n : ℕ) → inputs ≤ n → kind_of inputs (Signal n) ≡ 
 gate_kind inputs n le = rw (le-ltb n inputs le) refl
 
 -- wires of one kind
-of_kind : (inputs kind : ℕ) (wire : ℕ → Wire) (count : ℕ) → Differ (for_each wire count) → ((k : ℕ) → k < count → kind_of inputs (wire k) ≡ kind) → Spans (kind_of inputs) kind (suc kind) (for_each wire count)
+of_kind : (inputs kind : ℕ) (wire : ℕ → Wire) (count : ℕ) → Differ (for_each wire count) →
+    ((k : ℕ) → k < count → kind_of inputs (wire k) ≡ kind) →
+    Spans (kind_of inputs) kind (suc kind) (for_each wire count)
 of_kind inputs kind wire count once h = record {
   once = once;
   within = parts_below (IsWithin (kind_of inputs) kind (suc kind)) (λ k. wire k ∷ []) count (λ k lt. ((omega (arith, h k lt), omega (arith, h k lt)), tt));

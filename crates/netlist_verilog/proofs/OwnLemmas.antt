@@ -26,10 +26,15 @@ arc_wire_own m u v None hu hv = tt
 arc_wire_own m u v (Some r) hu hv = ((hu, hv), tt)
 
 pub inputs_own : (m : ModuleValue) → AllByRecursion (IsWireOf m) (input_wires m.netlist)
-inputs_own m = parts_joined (IsWireOf m) (signals_from 0 m.netlist.gates.inputs) _ (signals_own m 0 m.netlist.gates.inputs (omega arith)) (tt, parts_below (IsWireOf m) (λ v. Acknowledge v ∷ []) (length m.netlist.conditions) (λ v lt. (lt, tt)))
+inputs_own m =
+    parts_joined (IsWireOf m) (signals_from 0 m.netlist.gates.inputs) _
+    (signals_own m 0 m.netlist.gates.inputs (omega arith))
+    (tt, parts_below (IsWireOf m) (λ v. Acknowledge v ∷ []) (length m.netlist.conditions) (λ v lt. (lt, tt)))
 
 pub outputs_own : (m : ModuleValue) → AllByRecursion (IsWireOf m) (output_wires m.netlist)
-outputs_own m = parts_joined (IsWireOf m) (for_each Request (length m.netlist.conditions)) (Done ∷ Idle ∷ []) (parts_below (IsWireOf m) (λ v. Request v ∷ []) (length m.netlist.conditions) (λ v lt. (lt, tt))) (tt, (tt, tt))
+outputs_own m =
+    parts_joined (IsWireOf m) (for_each Request (length m.netlist.conditions)) (Done ∷ Idle ∷ [])
+    (parts_below (IsWireOf m) (λ v. Request v ∷ []) (length m.netlist.conditions) (λ v lt. (lt, tt))) (tt, (tt, tt))
 
 pub inner_own : (m : ModuleValue) → AllByRecursion (IsWireOf m) (inner_wires m.netlist)
 inner_own m =
@@ -54,7 +59,10 @@ equations_over m is =
     let es : List Equation = equations n in
     let wire : Equation → Wire = λ e. e.wire in
     let drivers : HasOneDriverEach m = one_driver m is in
-    let assigned : All (IsWireOf m) (map wire es) = subst (All (IsWireOf m)) (sym drivers.assigned) (All-from_recursion (IsWireOf m) (inner_wires n ++ output_wires n) (parts_joined (IsWireOf m) (inner_wires n) (output_wires n) (inner_own m) (outputs_own m))) in
+    let assigned : All (IsWireOf m) (map wire es) =
+    subst (All (IsWireOf m)) (sym drivers.assigned)
+    (All-from_recursion (IsWireOf m) (inner_wires n ++ output_wires n)
+    (parts_joined (IsWireOf m) (inner_wires n) (output_wires n) (inner_own m) (outputs_own m))) in
     recursion_from_All (IsEquationOf m) es (λ i d lt.
     let e : Equation = slice_index_or es i d in
     let speaks = drivers.reads_known i d lt in

@@ -22,11 +22,15 @@ after_text : (ts : List (List ℕ)) → (c : ℕ) × (r : List ℕ) × (continue
 after_text [] = (59, [], refl, refl)
 after_text (t ∷ ts) = (44, 32 ∷ ((t ++ joined false ts) ++ codes ";"), refl, refl)
 
-first_told : (t u : List ℕ) (ts us : List (List ℕ)) → AllPass continues_name t → AllPass continues_name u → (t ++ joined false ts) ++ codes ";" ≡ (u ++ joined false us) ++ codes ";" → (t ≡ u) × (joined false ts ++ codes ";" ≡ joined false us ++ codes ";")
+first_told : (t u : List ℕ) (ts us : List (List ℕ)) → AllPass continues_name t → AllPass continues_name u →
+    (t ++ joined false ts) ++ codes ";" ≡ (u ++ joined false us) ++ codes ";" →
+    (t ≡ u) × (joined false ts ++ codes ";" ≡ joined false us ++ codes ";")
 first_told t u ts us ht hu e =
     let a = after_text ts in
     let b = after_text us in
-    let e' : t ++ a.0 ∷ a.1 ≡ u ++ b.0 ∷ b.1 = ap (λ (z : List ℕ). t ++ z) (sym a.3) ∙ sym (append_assoc t (joined false ts) (codes ";")) ∙ e ∙ append_assoc u (joined false us) (codes ";") ∙ ap (λ (z : List ℕ). u ++ z) b.3 in
+    let e' : t ++ a.0 ∷ a.1 ≡ u ++ b.0 ∷ b.1 =
+    ap (λ (z : List ℕ). t ++ z) (sym a.3) ∙ sym (append_assoc t (joined false ts) (codes ";")) ∙ e
+    ∙ append_assoc u (joined false us) (codes ";") ∙ ap (λ (z : List ℕ). u ++ z) b.3 in
     let r = words_told continues_name t u a.0 b.0 a.1 b.1 ht hu a.2 b.2 e' in
     (r.0, a.3 ∙ r.1 ∙ sym b.3)
 
@@ -38,7 +42,9 @@ more_told (t ∷ ts) (u ∷ us) ht hu e =
     let r = first_told t u ts us ht.0 hu.0 (tails 32 32 _ _ (tails 44 44 _ _ e)) in
     ap₂ (λ (z : List ℕ) (zs : List (List ℕ)). z ∷ zs) r.0 (more_told ts us ht.1 hu.1 r.1)
 
-joined_told : (ts us : List (List ℕ)) → is_nil ts ≡ false → is_nil us ≡ false → AllByRecursion (AllPass continues_name) ts → AllByRecursion (AllPass continues_name) us → joined true ts ++ codes ";" ≡ joined true us ++ codes ";" → ts ≡ us
+joined_told : (ts us : List (List ℕ)) → is_nil ts ≡ false → is_nil us ≡ false →
+    AllByRecursion (AllPass continues_name) ts → AllByRecursion (AllPass continues_name) us →
+    joined true ts ++ codes ";" ≡ joined true us ++ codes ";" → ts ≡ us
 joined_told [] us nt nu ht hu e = absurd cc
 joined_told (t ∷ ts) [] nt nu ht hu e = absurd cc
 joined_told (t ∷ ts) (u ∷ us) nt nu ht hu e =
@@ -60,8 +66,16 @@ inputs_of m = input_signals m ++ (codes "go" ∷ acknowledges m)
 inputs_pass : (m : ModuleValue) → IsModule m → AllByRecursion (AllPass continues_name) (inputs_of m)
 inputs_pass m is =
     parts_joined (AllPass continues_name) (input_signals m) (codes "go" ∷ acknowledges m)
-    (parts_below (AllPass continues_name) (λ k. signal_text m.netlist.gates.inputs (0 + k) ∷ []) m.netlist.gates.inputs (λ k lt. (signal_passes m.netlist.gates.inputs (0 + k) (omega (arith, is.few_inputs)), tt)))
-    ((refl, (refl, tt)), parts_below (AllPass continues_name) (λ v. (codes "a_" ++ name_of m.names v) ∷ []) (length m.netlist.conditions) (λ v lt. ((refl, (refl, name_passes m.names v (names_pass m.names is.names))), tt)))
+    (parts_below (AllPass continues_name) (λ k. signal_text m.netlist.gates.inputs
+    (0 + k) ∷ []) m.netlist.gates.inputs (λ k lt.
+    (signal_passes m.netlist.gates.inputs (0 + k) (omega (arith, is.few_inputs)), tt))) (
+      (refl, (refl, tt)),
+      parts_below (AllPass continues_name) (λ v. (codes "a_" ++ name_of m.names v) ∷ [])
+          (length m.netlist.conditions) (λ v lt. (
+            (refl, (refl, name_passes m.names v (names_pass m.names is.names))),
+            tt,
+          )),
+    )
 
 -- whether a text begins as an input signal does
 abbrev is_input : List ℕ → Bool
@@ -90,13 +104,18 @@ pub record SamePorts (a b : ModuleValue) : Type 0 where
 
 pub ports_told : (a b : ModuleValue) → IsModule a → IsModule b → inputs_row a ≡ inputs_row b → SamePorts a b
 ports_told a b ia ib e =
-    let text : (m : ModuleValue) → joined true (wire_texts m (input_wires m.netlist)) ++ codes ";" ≡ joined true (inputs_of m) ++ codes ";" = λ m. ap (λ (ts : List (List ℕ)). joined true ts ++ codes ";") (input_texts m) in
+    let text : (m : ModuleValue) → joined true (wire_texts m (input_wires m.netlist)) ++ codes ";" ≡ joined true
+    (inputs_of m) ++ codes ";" = λ m. ap (λ (ts : List (List ℕ)). joined true ts ++ codes ";") (input_texts m) in
     let same : inputs_of a ≡ inputs_of b =
-    joined_told (inputs_of a) (inputs_of b) (some_texts (input_signals a) (acknowledges a) (codes "go")) (some_texts (input_signals b) (acknowledges b) (codes "go")) (inputs_pass a ia) (inputs_pass b ib)
+    joined_told (inputs_of a) (inputs_of b) (some_texts (input_signals a) (acknowledges a) (codes "go"))
+    (some_texts (input_signals b) (acknowledges b) (codes "go")) (inputs_pass a ia) (inputs_pass b ib)
     (sym (text a) ∙ append_cancel_left (codes "  input ") _ _ e ∙ text b) in
     let split = parted is_input (input_signals a) (input_signals b) (codes "go" ∷ acknowledges a) (codes "go" ∷ acknowledges b) (signals_are a) (signals_are b) (others_not a) (others_not b) same in
     let signals = ones_told (λ k. signal_text a.netlist.gates.inputs (0 + k)) (λ k. signal_text b.netlist.gates.inputs (0 + k)) a.netlist.gates.inputs b.netlist.gates.inputs split.0 in
-    let acks = ones_told (λ v. codes "a_" ++ name_of a.names v) (λ v. codes "a_" ++ name_of b.names v) (length a.netlist.conditions) (length b.netlist.conditions) (cons_parts (codes "go") (codes "go") (acknowledges a) (acknowledges b) split.1).1 in
+    let acks =
+    ones_told (λ v. codes "a_" ++ name_of a.names v) (λ v. codes "a_" ++ name_of b.names v)
+    (length a.netlist.conditions) (length b.netlist.conditions)
+    (cons_parts (codes "go") (codes "go") (acknowledges a) (acknowledges b) split.1).1 in
     record {
       inputs = signals.0;
       count = acks.0;

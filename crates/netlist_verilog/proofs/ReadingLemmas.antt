@@ -73,7 +73,9 @@ no_assign : (m : ModuleValue) (w : Wire) → IsModule m → IsTokenOf m (name w)
 no_assign m w is known e = let t : false ≡ true = ap is_identifier (sym e) ∙ known.1 in cc
 
 -- two tokens of one kind, each as long as it can be
-of_one_kind : (m : ModuleValue) (t u : Token) (x y : List ℕ) → IsModule m → IsTokenOf m t → IsTokenOf m u → NoneFirst (lengthens t) x → NoneFirst (lengthens u) y → kind t ≡ kind u → token_text m t ++ x ≡ token_text m u ++ y → (t ≡ u) × (x ≡ y)
+of_one_kind : (m : ModuleValue) (t u : Token) (x y : List ℕ) → IsModule m → IsTokenOf m t → IsTokenOf m u →
+    NoneFirst (lengthens t) x → NoneFirst (lengthens u) y → kind t ≡ kind u →
+    token_text m t ++ x ≡ token_text m u ++ y → (t ≡ u) × (x ≡ y)
 of_one_kind m (name w) (name z) x y is kt ku hx hy k e =
     let r = words_alike continues_identifier (called m w) (called m z) x y (called_bytes m w is kt.0) (called_bytes m z is ku.0) hx hy e in
     (ap name (wires_told m w z is kt.0 ku.0 r.0), r.1)
@@ -90,8 +92,12 @@ of_one_kind m closing closing x y is kt ku hx hy k e = (refl, tails 41 41 _ _ e)
 of_one_kind m assign assign x y is kt ku hx hy k e = (refl, append_cancel_left (codes "assign") x y e)
 of_one_kind m equals equals x y is kt ku hx hy k e = (refl, tails 61 61 _ _ e)
 of_one_kind m semicolon semicolon x y is kt ku hx hy k e = (refl, tails 59 59 _ _ e)
-of_one_kind m (name w) assign x y is kt ku hx hy k e = absurd (no_assign m w is kt (words_alike continues_identifier (called m w) (codes "assign") x y (called_bytes m w is kt.0) assign_bytes hx hy e).0)
-of_one_kind m assign (name z) x y is kt ku hx hy k e = absurd (no_assign m z is ku (words_alike continues_identifier (called m z) (codes "assign") y x (called_bytes m z is ku.0) assign_bytes hy hx (sym e)).0)
+of_one_kind m (name w) assign x y is kt ku hx hy k e =
+    absurd (no_assign m w is kt (words_alike continues_identifier (called m w) (codes "assign") x y
+    (called_bytes m w is kt.0) assign_bytes hx hy e).0)
+of_one_kind m assign (name z) x y is kt ku hx hy k e =
+    absurd (no_assign m z is ku (words_alike continues_identifier (called m z) (codes "assign") y x
+    (called_bytes m z is ku.0) assign_bytes hy hx (sym e)).0)
 of_one_kind m t (operator and) x y is kt ku hx hy k e = absurd (omega (arith, k))
 of_one_kind m t (operator xor) x y is kt ku hx hy k e = absurd (omega (arith, k))
 of_one_kind m t (operator or) x y is kt ku hx hy k e = absurd (omega (arith, k))
@@ -115,7 +121,8 @@ comments_alike (c ∷ d ∷ v) [] x y hv hw e = absurd (slash_apart d (hv.0 (hea
 comments_alike (b ∷ v) (c ∷ w) x y hv hw e = comments_alike v w x y hv.1 hw.1 (tails b c _ _ e)
 
 -- a token ends a gap
-same_gap : (g h : Gap) (b c : ℕ) (x y : List ℕ) → IsGap g → IsGap h → is_blank b ≡ false → is_blank c ≡ false → eqb b 47 ≡ false → eqb c 47 ≡ false → gap_text g ++ b ∷ x ≡ gap_text h ++ c ∷ y → (b ∷ x) ≡ (c ∷ y)
+same_gap : (g h : Gap) (b c : ℕ) (x y : List ℕ) → IsGap g → IsGap h → is_blank b ≡ false → is_blank c ≡ false →
+    eqb b 47 ≡ false → eqb c 47 ≡ false → gap_text g ++ b ∷ x ≡ gap_text h ++ c ∷ y → (b ∷ x) ≡ (c ∷ y)
 same_gap nothing nothing b c x y hg hh nb nc sb sc e = e
 same_gap nothing (blank d h) b c x y hg hh nb nc sb sc e = absurd (apart (is_blank d) (is_blank b) hh.0 nb (ap is_blank (sym (heads b d _ _ e))))
 same_gap nothing (comment w h) b c x y hg hh nb nc sb sc e = absurd (slash_apart b sb (heads b 47 _ _ e))
@@ -208,8 +215,13 @@ abbrev Runs : (l : Level) → List Token → Formula → Type 0
 Runs primary xs f = (ts : List Token) (r : Frame) (rs : List Frame) → run (xs ++ ts) r rs ≡ run ts (with_primary f r) rs
 Runs unary xs f = (ts : List Token) (o x a : Option Formula) (rs : List Frame) → run (xs ++ ts) (frame o x a false) rs ≡ run ts (frame o x (Some (joined_to And a f)) false) rs
 Runs (row and) xs f = (ts : List Token) (o x : Option Formula) (rs : List Frame) → run (xs ++ ts) (frame o x None false) rs ≡ run ts (frame o x (Some f) false) rs
-Runs (row xor) xs f = (ts : List Token) (o : Option Formula) (rs : List Frame) → (x : Option Formula) × (a : Formula) × (joined_to Xor x a ≡ f) × (run (xs ++ ts) (frame o None None false) rs ≡ run ts (frame o x (Some a) false) rs)
-Runs (row or) xs f = (ts : List Token) (rs : List Frame) → (o : Option Formula) × (x : Option Formula) × (a : Formula) × (joined_to Or o (joined_to Xor x a) ≡ f) × (run (xs ++ ts) empty rs ≡ run ts (frame o x (Some a) false) rs)
+Runs (row xor) xs f =
+    (ts : List Token) (o : Option Formula) (rs : List Frame) →
+    (x : Option Formula) × (a : Formula) × (joined_to Xor x a ≡ f) ×
+    (run (xs ++ ts) (frame o None None false) rs ≡ run ts (frame o x (Some a) false) rs)
+Runs (row or) xs f =
+    (ts : List Token) (rs : List Frame) → (o : Option Formula) × (x : Option Formula) × (a : Formula) ×
+    (joined_to Or o (joined_to Xor x a) ≡ f) × (run (xs ++ ts) empty rs ≡ run ts (frame o x (Some a) false) rs)
 
 -- a row, the operator, and one more
 split : (xs ys ts : List Token) (o : Operator) (r : Frame) (rs : List Frame) → run ((xs ++ operator o ∷ ys) ++ ts) r rs ≡ run (xs ++ operator o ∷ (ys ++ ts)) r rs
@@ -228,8 +240,13 @@ runs (single xor e) = λ ts o rs. (None, formula e, refl, runs e ts o None rs)
 runs (single or e) = λ ts rs. let h = runs e ts None rs in (None, h.0, h.1, h.2, h.3)
 runs (joined and e g) = λ ts o x rs. split (tokens e) (tokens g) ts and (frame o x None false) rs ∙ runs e (operator and ∷ (tokens g ++ ts)) o x rs ∙ runs g ts o x (Some (formula e)) rs
 runs (joined xor e g) = λ ts o rs.
-    let h = runs e (operator xor ∷ (tokens g ++ ts)) o rs in
-    (Some (formula e), formula g, refl, split (tokens e) (tokens g) ts xor (frame o None None false) rs ∙ h.3 ∙ ap (λ f. run (tokens g ++ ts) (frame o (Some f) None false) rs) h.2 ∙ runs g ts o (Some (formula e)) rs)
+    let h = runs e (operator xor ∷ (tokens g ++ ts)) o rs in (
+      Some (formula e),
+      formula g,
+      refl,
+      split (tokens e) (tokens g) ts xor (frame o None None false) rs ∙ h.3
+          ∙ ap (λ f. run (tokens g ++ ts) (frame o (Some f) None false) rs) h.2 ∙ runs g ts o (Some (formula e)) rs,
+    )
 runs (joined or e g) = λ ts rs.
     let h = runs e (operator or ∷ (tokens g ++ ts)) rs in
     let k = runs g ts (Some (formula e)) rs in

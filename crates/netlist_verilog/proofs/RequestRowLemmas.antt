@@ -29,10 +29,13 @@ members s n = each_below (λ u. cond (set.contains s u) (u ∷ []) []) n
 abbrev wait_text : ModuleValue → ℕ → ℕ → List ℕ
 wait_text m v u = and_text m true (arc_formula v u)
 
-opened : (name second third x : List ℕ) → (codes " & (" ++ ((((codes "a_" ++ name) ++ (32 ∷ second)) ++ third) ++ codes ")")) ++ x ≡ codes " & (a_" ++ (name ++ 32 ∷ (second ++ (third ++ (codes ")" ++ x))))
+opened : (name second third x : List ℕ) →
+    (codes " & (" ++ ((((codes "a_" ++ name) ++ (32 ∷ second)) ++ third) ++ codes ")")) ++ x ≡ codes " & (a_" ++
+    (name ++ 32 ∷ (second ++ (third ++ (codes ")" ++ x))))
 opened name second third x = simp append_assoc
 
-wait_told : (m : ModuleValue) (v a b : ℕ) (x y : List ℕ) → AreNames m.names → AreDistinct m.names → a < length m.names → b < length m.names → wait_text m v a ++ x ≡ wait_text m v b ++ y → (a ≡ b) × (x ≡ y)
+wait_told : (m : ModuleValue) (v a b : ℕ) (x y : List ℕ) → AreNames m.names → AreDistinct m.names →
+    a < length m.names → b < length m.names → wait_text m v a ++ x ≡ wait_text m v b ++ y → (a ≡ b) × (x ≡ y)
 wait_told m v a b x y are distinct ha hb e =
     let name : ℕ → List ℕ = name_of m.names in
     let second : ℕ → List ℕ = λ u. codes "| ~c_" ++ name u in
@@ -76,14 +79,22 @@ abbrev pub request_of : Set → ℕ → ℕ → Equation
 request_of s count v = record { wire = Request v; formula = and_each (And (Read Go) (Read (Condition v))) (set.contains s) (arc_formula v) count; comment = None }
 
 pub request_told : (m : ModuleValue) (v count : ℕ) (s t : Set) → AreNames m.names → AreDistinct m.names → count ≤ length m.names
-    → equation_row m.netlist.gates.inputs m.names (request_of s count v) ≡ equation_row m.netlist.gates.inputs m.names (request_of t count v) → (u : ℕ) → u < count → set.contains s u ≡ set.contains t u
+    → equation_row m.netlist.gates.inputs m.names (request_of s count v) ≡ equation_row m.netlist.gates.inputs m.names
+    (request_of t count v) → (u : ℕ) → u < count → set.contains s u ≡ set.contains t u
 request_told m v count s t are distinct few e u lt =
     let first = And (Read Go) (Read (Condition v)) in
     let begin : List ℕ = formula_text m.netlist.gates.inputs m.names first in
     let formula = append_cancel_left (codes " = ") _ _ (append_cancel_left (wire_text m.netlist.gates.inputs m.names (Request v)) _ _ (append_cancel_left (codes "  assign ") _ _ e)) in
-    let form : (r : Set) → formula_text m.netlist.gates.inputs m.names (and_each first (set.contains r) (arc_formula v) count) ++ codes ";" ≡ begin ++ (flat_map (wait_text m v) (members r count) ++ codes ";") = λ r.
-    ap (λ (x : List ℕ). x ++ codes ";") (each_text m first (set.contains r) (arc_formula v) count (λ text. refl) ∙ ap (λ (x : List ℕ). begin ++ x) (waits_text m v r count)) ∙ append_assoc begin (flat_map (wait_text m v) (members r count)) (codes ";") in
+    let form : (r : Set) → formula_text m.netlist.gates.inputs m.names
+    (and_each first (set.contains r) (arc_formula v) count) ++ codes ";" ≡ begin ++
+    (flat_map (wait_text m v) (members r count) ++ codes ";") = λ r.
+    ap (λ (x : List ℕ). x ++ codes ";") (each_text m first (set.contains r) (arc_formula v) count (λ text. refl)
+    ∙ ap (λ (x : List ℕ). begin ++ x) (waits_text m v r count))
+    ∙ append_assoc begin (flat_map (wait_text m v) (members r count)) (codes ";") in
     let below : (r : Set) → AllByRecursion (λ k. k < length m.names) (members r count) = λ r. are_members (λ k. k < length m.names) r count (λ k lt is. omega (arith, few, lt)) in
-    let same = (until_told (wait_text m v) (λ k. k < length m.names) (λ x. x ≡ codes ";") (λ a b x y ha hb h. wait_told m v a b x y are distinct ha hb h) (λ a x y h h'. omega (arith, heads 32 59 _ _ (h' ∙ h)))
+    let same =
+    (until_told (wait_text m v) (λ k. k < length m.names) (λ x. x ≡ codes ";")
+    (λ a b x y ha hb h. wait_told m v a b x y are distinct ha hb h)
+    (λ a x y h h'. omega (arith, heads 32 59 _ _ (h' ∙ h)))
     (members s count) (members t count) (codes ";") (codes ";") (below s) (below t) refl refl (append_cancel_left begin _ _ (sym (form s) ∙ formula ∙ form t))).0 in
     same_bool (set.contains s u) (set.contains t u) (half t s count u (sym same) lt) (half s t count u same lt)

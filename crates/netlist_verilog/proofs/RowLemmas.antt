@@ -39,7 +39,10 @@ lines_told a b e =
     let inputs = cons_parts (inputs_row a) (inputs_row b) _ _ header.1 in
     let outputs = cons_parts (outputs_row a) (outputs_row b) _ _ inputs.1 in
     let wires : ModuleValue → List (List ℕ) = λ m. wire_lines (wire_texts m (inner_wires m.netlist)) in
-    let rest = parted declares_wires (wires a) (wires b) (equation_lines a ++ codes "endmodule" ∷ []) (equation_lines b ++ codes "endmodule" ∷ []) (wires_declare _) (wires_declare _) (others_dont a _) (others_dont b _) outputs.1 in
+    let rest =
+    parted declares_wires (wires a) (wires b) (equation_lines a ++ codes "endmodule" ∷ [])
+    (equation_lines b ++ codes "endmodule" ∷ []) (wires_declare _) (wires_declare _) (others_dont a _)
+    (others_dont b _) outputs.1 in
     record { inputs = inputs.0; equations = append_cancel_right (equation_lines a) (equation_lines b) (codes "endmodule" ∷ []) rest.1 }
 
 -- ---- the lines of the equations
@@ -57,7 +60,9 @@ rows_assign m c b es h = mapped (λ e. assigns c (equation_row m.netlist.gates.i
 gate_rows : (m : ModuleValue) → AllAssign 103 true (equation_rows m (gate_equations m.netlist.gates))
 gate_rows m =
     let inputs = m.netlist.gates.inputs in
-    rows_assign m 103 true (gate_equations m.netlist.gates) (parts_below (λ e. assigns 103 (equation_row inputs m.names e) ≡ true) (λ g. gate_equation inputs g (gate_at m.netlist.gates g) ∷ []) (length m.netlist.gates.gates) (λ g lt.
+    rows_assign m 103 true (gate_equations m.netlist.gates)
+    (parts_below (λ e. assigns 103 (equation_row inputs m.names e) ≡ true)
+    (λ g. gate_equation inputs g (gate_at m.netlist.gates g) ∷ []) (length m.netlist.gates.gates) (λ g lt.
     (one g (gate_equation inputs g (gate_at m.netlist.gates g)) refl, tt)))
   where
     one : (g : ℕ) (e : Equation) → e.wire ≡ Signal (m.netlist.gates.inputs + g) → assigns 103 (equation_row m.netlist.gates.inputs m.names e) ≡ true
@@ -70,20 +75,28 @@ gate_rows m =
         ]
 
 condition_rows : (m : ModuleValue) (c : ℕ) (b : Bool) → eqb 99 c ≡ b → AllAssign c b (equation_rows m (condition_part m.netlist))
-condition_rows m c b h = rows_assign m c b (condition_part m.netlist) (parts_below (λ e. assigns c (equation_row m.netlist.gates.inputs m.names e) ≡ b) (λ v. condition_equation v (condition_of m.netlist v) ∷ []) (length m.netlist.conditions) (λ v lt. (h, tt)))
+condition_rows m c b h =
+    rows_assign m c b (condition_part m.netlist)
+    (parts_below (λ e. assigns c (equation_row m.netlist.gates.inputs m.names e) ≡ b)
+    (λ v. condition_equation v (condition_of m.netlist v) ∷ []) (length m.netlist.conditions) (λ v lt. (h, tt)))
 
 arc_rows : (m : ModuleValue) (c : ℕ) (b : Bool) → eqb 101 c ≡ b → AllAssign c b (equation_rows m (arc_part m.netlist))
 arc_rows m c b h =
     let n : Netlist = m.netlist in
     let P : Equation → Type 0 = λ e. assigns c (equation_row n.gates.inputs m.names e) ≡ b in
-    rows_assign m c b (arc_part n) (parts_below P (λ u. arc_equations_from n u (length n.conditions)) (length n.conditions) (λ u lu. parts_below P (λ v. arc_equation u v (wire_of n u v)) (length n.conditions) (λ v lv. one u v (wire_of n u v))))
+    rows_assign m c b (arc_part n) (parts_below P (λ u. arc_equations_from n u (length n.conditions))
+    (length n.conditions) (λ u lu. parts_below P (λ v. arc_equation u v (wire_of n u v)) (length n.conditions)
+    (λ v lv. one u v (wire_of n u v))))
   where
     one : (u v : ℕ) (w : Option Ref) → AllByRecursion (λ e. assigns c (equation_row m.netlist.gates.inputs m.names e) ≡ b) (arc_equation u v w)
     one u v None = tt
     one u v (Some r) = (h, tt)
 
 request_rows : (m : ModuleValue) (c : ℕ) (b : Bool) → eqb 114 c ≡ b → AllAssign c b (equation_rows m (request_part m.netlist))
-request_rows m c b h = rows_assign m c b (request_part m.netlist) (parts_below (λ e. assigns c (equation_row m.netlist.gates.inputs m.names e) ≡ b) (λ v. request_equation m.netlist v ∷ []) (length m.netlist.conditions) (λ v lt. (h, tt)))
+request_rows m c b h =
+    rows_assign m c b (request_part m.netlist)
+    (parts_below (λ e. assigns c (equation_row m.netlist.gates.inputs m.names e) ≡ b)
+    (λ v. request_equation m.netlist v ∷ []) (length m.netlist.conditions) (λ v lt. (h, tt)))
 
 pub record SameRows (a b : ModuleValue) : Type 0 where
   pub gates : equation_rows a (gate_equations a.netlist.gates) ≡ equation_rows b (gate_equations b.netlist.gates)
@@ -100,14 +113,24 @@ rows_told a b e =
     let ends : ModuleValue → List (List ℕ) = λ m. equation_rows m (end_part m.netlist) in
     let split : (m : ModuleValue) → equation_lines m ≡ gates m ++ (conditions m ++ (arcs m ++ (requests m ++ ends m))) = λ m.
     rows_split m (gate_equations m.netlist.gates) (condition_part m.netlist) (arc_part m.netlist) (request_part m.netlist) (end_part m.netlist) in
-    let no_request : (c : ℕ) (m : ModuleValue) → eqb 114 c ≡ false → AllAssign c false (ends m) → AllAssign c false (requests m ++ ends m) = λ c m r h. parts_joined (λ l. assigns c l ≡ false) (requests m) (ends m) (request_rows m c false r) h in
-    let no_arc : (c : ℕ) (m : ModuleValue) → eqb 101 c ≡ false → AllAssign c false (requests m ++ ends m) → AllAssign c false (arcs m ++ (requests m ++ ends m)) = λ c m r h. parts_joined (λ l. assigns c l ≡ false) (arcs m) (requests m ++ ends m) (arc_rows m c false r) h in
+    let no_request : (c : ℕ) (m : ModuleValue) → eqb 114 c ≡ false → AllAssign c false (ends m) →
+    AllAssign c false (requests m ++ ends m) = λ c m r h. parts_joined (λ l. assigns c l ≡ false) (requests m)
+    (ends m) (request_rows m c false r) h in
+    let no_arc : (c : ℕ) (m : ModuleValue) → eqb 101 c ≡ false → AllAssign c false (requests m ++ ends m) →
+    AllAssign c false (arcs m ++ (requests m ++ ends m)) = λ c m r h. parts_joined (λ l. assigns c l ≡ false)
+    (arcs m) (requests m ++ ends m) (arc_rows m c false r) h in
     let after_gates : (m : ModuleValue) → AllAssign 103 false (conditions m ++ (arcs m ++ (requests m ++ ends m))) = λ m.
     parts_joined (λ l. assigns 103 l ≡ false) (conditions m) (arcs m ++ (requests m ++ ends m)) (condition_rows m 103 false refl) (no_arc 103 m refl (no_request 103 m refl (refl, (refl, tt)))) in
     let after_conditions : (m : ModuleValue) → AllAssign 99 false (arcs m ++ (requests m ++ ends m)) = λ m. no_arc 99 m refl (no_request 99 m refl (refl, (refl, tt))) in
     let after_arcs : (m : ModuleValue) → AllAssign 101 false (requests m ++ ends m) = λ m. no_request 101 m refl (refl, (refl, tt)) in
-    let first = parted (assigns 103) (gates a) (gates b) (conditions a ++ (arcs a ++ (requests a ++ ends a))) (conditions b ++ (arcs b ++ (requests b ++ ends b))) (gate_rows a) (gate_rows b) (after_gates a) (after_gates b) (sym (split a) ∙ e ∙ split b) in
-    let second = parted (assigns 99) (conditions a) (conditions b) (arcs a ++ (requests a ++ ends a)) (arcs b ++ (requests b ++ ends b)) (condition_rows a 99 true refl) (condition_rows b 99 true refl) (after_conditions a) (after_conditions b) first.1 in
+    let first =
+    parted (assigns 103) (gates a) (gates b) (conditions a ++ (arcs a ++ (requests a ++ ends a)))
+    (conditions b ++ (arcs b ++ (requests b ++ ends b))) (gate_rows a) (gate_rows b) (after_gates a)
+    (after_gates b) (sym (split a) ∙ e ∙ split b) in
+    let second =
+    parted (assigns 99) (conditions a) (conditions b) (arcs a ++ (requests a ++ ends a))
+    (arcs b ++ (requests b ++ ends b)) (condition_rows a 99 true refl) (condition_rows b 99 true refl)
+    (after_conditions a) (after_conditions b) first.1 in
     let third = parted (assigns 101) (arcs a) (arcs b) (requests a ++ ends a) (requests b ++ ends b) (arc_rows a 101 true refl) (arc_rows b 101 true refl) (after_arcs a) (after_arcs b) second.1 in
     let fourth = parted (assigns 114) (requests a) (requests b) (ends a) (ends b) (request_rows a 114 true refl) (request_rows b 114 true refl) (refl, (refl, tt)) (refl, (refl, tt)) third.1 in
     record { gates = first.0; conditions = second.0; arcs = third.0; requests = fourth.0 }

@@ -10,7 +10,7 @@ use Rattle.line_text.proofs.TellingLemmas.{AllPass, AllPass-append, decimal_cont
 use Rattle.netlist_verilog.specs.Module.{ModuleValue, IsModule, IsWireOf, called}
 use Rattle.netlist_verilog.specs.Wires.{Wire, Signal, Go, Acknowledge, Request, Done, Idle, Condition, ArcCondition, name_of}
 use Rattle.netlist_verilog.specs.Formulas.{Formula, Bit, Read, Not, And, Xor, Or, ReadsOnly, tightness, grouped, formula_text}
-use Rattle.netlist_verilog.specs.Keywords.{is_keyword}
+use Rattle.netlist_verilog.specs.Keywords.{is_verilog_keyword}
 use Rattle.netlist_verilog.specs.Grammar.{Operator, and, xor, or, Token, name, bit, tilde, operator, opening, closing, assign, equals, semicolon, token_text, continues_identifier, is_identifier, IsTokenOf, lengthens, is_blank, NoneFirst, Spells, Level, primary, unary, row, Expression, named, constant, group, plain, negated, single, joined, tokens, formula, IsReadAs, HoldsNoEnd, nothing, blank, comment, gap_text}
 use Rattle.netlist_verilog.proofs.FeedLemmas.{names_pass, name_passes}
 use Rattle.netlist_verilog.proofs.WordLemmas.{signal_cases}
@@ -39,26 +39,116 @@ pub record Letters (text : List ℕ) : Type 0 where
   pub is_no_blank : is_blank first ≡ false
   pub is_no_slash : eqb first 47 ≡ false
 
-name_letters : (m : ModuleValue) (v b : ℕ) → IsModule m → begins_name b ≡ true → lengthens tilde b ≡ false → lengthens opening b ≡ false → kind_at b ≡ 0 → is_blank b ≡ false → eqb b 47 ≡ false → Letters (b ∷ 95 ∷ name_of m.names v)
-name_letters m v b is begins tilde' opening' kind' blank' slash' = record { first = b; rest = 95 ∷ name_of m.names v; whole = refl; begins = begins; goes_on = (refl, name_passes m.names v (names_pass m.names is.names)); not_after_tilde = tilde'; not_after_opening = opening'; kind_is = kind'; is_no_blank = blank'; is_no_slash = slash' }
+name_letters : (m : ModuleValue) (v b : ℕ) → IsModule m → begins_name b ≡ true → lengthens tilde b ≡ false →
+    lengthens opening b ≡ false → kind_at b ≡ 0 → is_blank b ≡ false → eqb b 47 ≡ false →
+    Letters (b ∷ 95 ∷ name_of m.names v)
+name_letters m v b is begins tilde' opening' kind' blank' slash' =
+    record {
+      first = b;
+      rest = 95 ∷ name_of m.names v;
+      whole = refl;
+      begins = begins;
+      goes_on = (
+        refl,
+        name_passes m.names v (names_pass m.names is.names),
+      );
+      not_after_tilde = tilde';
+      not_after_opening = opening';
+      kind_is = kind';
+      is_no_blank = blank';
+      is_no_slash = slash';
+    }
 
 pub letters : (m : ModuleValue) (w : Wire) → IsModule m → IsWireOf m w → Letters (called m w)
 letters m (Signal n) is lt = elim (signal_cases m.netlist.gates.inputs n) [
-  | inl h ↦ record { first = 120; rest = decimal n; whole = h.1; begins = refl; goes_on = decimal_continues n (signal_fits m n is lt); not_after_tilde = refl; not_after_opening = refl; kind_is = refl; is_no_blank = refl; is_no_slash = refl }
-  | inr h ↦ record { first = 103; rest = decimal (n - m.netlist.gates.inputs); whole = h.1; begins = refl; goes_on = decimal_continues (n - m.netlist.gates.inputs) (let fits = signal_fits m n is lt in omega (arith, fits)); not_after_tilde = refl; not_after_opening = refl; kind_is = refl; is_no_blank = refl; is_no_slash = refl }
+  | inl h ↦ record {
+    first = 120;
+    rest = decimal n;
+    whole = h.1;
+    begins = refl;
+    goes_on = decimal_continues n
+        (signal_fits m n is lt);
+    not_after_tilde = refl;
+    not_after_opening = refl;
+    kind_is = refl;
+    is_no_blank = refl;
+    is_no_slash = refl;
+  }
+  | inr h ↦ record {
+    first = 103;
+    rest = decimal
+        (n - m.netlist.gates.inputs);
+    whole = h.1;
+    begins = refl;
+    goes_on = decimal_continues (n - m.netlist.gates.inputs) (let fits = signal_fits m n is lt in
+        omega (arith, fits));
+    not_after_tilde = refl;
+    not_after_opening = refl;
+    kind_is = refl;
+    is_no_blank = refl;
+    is_no_slash = refl;
+  }
 ]
-letters m Go is lt = record { first = 103; rest = codes "o"; whole = refl; begins = refl; goes_on = (refl, tt); not_after_tilde = refl; not_after_opening = refl; kind_is = refl; is_no_blank = refl; is_no_slash = refl }
+letters m Go is lt =
+    record {
+      first = 103;
+      rest = codes "o";
+      whole = refl;
+      begins = refl;
+      goes_on = (
+        refl,
+        tt,
+      );
+      not_after_tilde = refl;
+      not_after_opening = refl;
+      kind_is = refl;
+      is_no_blank = refl;
+      is_no_slash = refl;
+    }
 letters m (Acknowledge v) is lt = name_letters m v 97 is refl refl refl refl refl refl
 letters m (Request v) is lt = name_letters m v 114 is refl refl refl refl refl refl
-letters m Done is lt = record { first = 100; rest = codes "one"; whole = refl; begins = refl; goes_on = (refl, (refl, (refl, tt))); not_after_tilde = refl; not_after_opening = refl; kind_is = refl; is_no_blank = refl; is_no_slash = refl }
-letters m Idle is lt = record { first = 105; rest = codes "dle"; whole = refl; begins = refl; goes_on = (refl, (refl, (refl, tt))); not_after_tilde = refl; not_after_opening = refl; kind_is = refl; is_no_blank = refl; is_no_slash = refl }
+letters m Done is lt =
+    record {
+      first = 100;
+      rest = codes "one";
+      whole = refl;
+      begins = refl;
+      goes_on = (
+        refl,
+        (refl, (refl, tt)),
+      );
+      not_after_tilde = refl;
+      not_after_opening = refl;
+      kind_is = refl;
+      is_no_blank = refl;
+      is_no_slash = refl;
+    }
+letters m Idle is lt =
+    record {
+      first = 105;
+      rest = codes "dle";
+      whole = refl;
+      begins = refl;
+      goes_on = (
+        refl,
+        (refl, (refl, tt)),
+      );
+      not_after_tilde = refl;
+      not_after_opening = refl;
+      kind_is = refl;
+      is_no_blank = refl;
+      is_no_slash = refl;
+    }
 letters m (Condition v) is lt = name_letters m v 99 is refl refl refl refl refl refl
 letters m (ArcCondition u v) is lt = record {
   first = 101;
   rest = decimal u ++ (codes "_" ++ decimal v);
   whole = refl;
   begins = refl;
-  goes_on = AllPass-append continues_name (decimal u) (codes "_" ++ decimal v) (decimal_continues u (omega (arith, lt.0, is.netlist.few))) (refl, decimal_continues v (omega (arith, lt.1, is.netlist.few)));
+  goes_on =
+      AllPass-append continues_name (decimal u) (codes "_" ++ decimal v)
+      (decimal_continues u (omega (arith, lt.0, is.netlist.few)))
+      (refl, decimal_continues v (omega (arith, lt.1, is.netlist.few)));
   not_after_tilde = refl;
   not_after_opening = refl;
   kind_is = refl;
@@ -73,7 +163,7 @@ all_continue (b ∷ bs) h = and_from (continues_identifier b) (list_all continue
 pub wire_token : (m : ModuleValue) (w : Wire) → IsModule m → IsWireOf m w → IsTokenOf m (name w)
 wire_token m w is own =
     let l = letters m w is own in
-    let free : not (is_keyword (l.first ∷ l.rest)) ≡ true = ap not (ap is_keyword (sym l.whole) ∙ no_keyword m w is own) in
+    let free : not (is_verilog_keyword (l.first ∷ l.rest)) ≡ true = ap not (ap is_verilog_keyword (sym l.whole) ∙ no_keyword m w is own) in
     (own, ap is_identifier l.whole ∙ and_from (begins_name l.first) _ l.begins (and_from (list_all continues_identifier l.rest) _ (all_continue l.rest l.goes_on) free))
 
 -- ---- one token more
@@ -127,7 +217,19 @@ after_blank m (t ∷ ts) text s = (s.0, record { known = s.1.known; gap = blank 
 
 pub after_comment : (m : ModuleValue) (bytes : List ℕ) (ts : List Token) (text : List ℕ) → HoldsNoEnd bytes → Spells m ts text → Spells m ts (47 ∷ 42 ∷ (bytes ++ 42 ∷ 47 ∷ text))
 after_comment m bytes [] text h s = (comment bytes s.0, (h, s.1), ap (λ (x : List ℕ). 47 ∷ 42 ∷ (bytes ++ 42 ∷ 47 ∷ x)) s.2)
-after_comment m bytes (t ∷ ts) text h s = (s.0, record { known = s.1.known; gap = comment bytes s.1.gap; is_gap = (h, s.1.is_gap); whole = ap (λ (x : List ℕ). 47 ∷ 42 ∷ (bytes ++ 42 ∷ 47 ∷ x)) s.1.whole ∙ ap (λ (x : List ℕ). 47 ∷ 42 ∷ x) (sym (append_assoc bytes (42 ∷ 47 ∷ gap_text s.1.gap) _)); ends = s.1.ends }, s.2)
+after_comment m bytes (t ∷ ts) text h s = (
+  s.0,
+  record {
+    known = s.1.known;
+    gap = comment bytes s.1.gap;
+    is_gap = (h, s.1.is_gap);
+    whole = ap
+        (λ (x : List ℕ). 47 ∷ 42 ∷ (bytes ++ 42 ∷ 47 ∷ x)) s.1.whole
+        ∙ ap (λ (x : List ℕ). 47 ∷ 42 ∷ x) (sym (append_assoc bytes (42 ∷ 47 ∷ gap_text s.1.gap) _));
+    ends = s.1.ends;
+  },
+  s.2,
+)
 
 pub before : (m : ModuleValue) (t : Token) (ts : List Token) (rest : List ℕ) → IsTokenOf m t → NoneFirst (lengthens t) rest → Spells m ts rest → Spells m (t ∷ ts) (token_text m t ++ rest)
 before m t ts rest known ends s = (rest, record { known = known; gap = nothing; is_gap = tt; whole = refl; ends = ends }, s)
@@ -156,9 +258,11 @@ formula_first m (Bit true) rest is own = refl
 formula_first m (Read w) rest is own = let l = letters m w is own in subst (λ (x : List ℕ). NoneFirst (lengthens opening) (x ++ rest)) (sym l.whole) l.not_after_opening
 formula_first m (Not f) rest is own = refl
 formula_first m (And f g) rest is own =
-    subst (NoneFirst (lengthens opening)) (sym (append_assoc (grouped 2 (tightness f) (text m f)) _ rest)) (grouped_first (lengthens opening) 2 (tightness f) (text m f) _ refl (formula_first m f _ is own.0))
+    subst (NoneFirst (lengthens opening)) (sym (append_assoc (grouped 2 (tightness f) (text m f)) _ rest))
+    (grouped_first (lengthens opening) 2 (tightness f) (text m f) _ refl (formula_first m f _ is own.0))
 formula_first m (Xor f g) rest is own =
-    subst (NoneFirst (lengthens opening)) (sym (append_assoc (grouped 1 (tightness f) (text m f)) _ rest)) (grouped_first (lengthens opening) 1 (tightness f) (text m f) _ refl (formula_first m f _ is own.0))
+    subst (NoneFirst (lengthens opening)) (sym (append_assoc (grouped 1 (tightness f) (text m f)) _ rest))
+    (grouped_first (lengthens opening) 1 (tightness f) (text m f) _ refl (formula_first m f _ is own.0))
 formula_first m (Or f g) rest is own = subst (NoneFirst (lengthens opening)) (sym (append_assoc (text m f) _ rest)) (formula_first m f _ is own.0)
 
 -- nor does one of a primary of a tilde
@@ -277,10 +381,14 @@ formula_again (Or f g) = ap₂ Or ((fits (row or) (level f) (expression f)).same
 -- ---- its spelling
 
 -- a formula at a place
-placed : (m : ModuleValue) (goal : Level) (f : Formula) → IsModule m → ReadsOnly (IsWireOf m) f → Carries m (tokens (expression f)) (text m f) → Carries m (tokens (fit goal (level f) (expression f))) (grouped (rank goal) (tightness f) (text m f))
+placed : (m : ModuleValue) (goal : Level) (f : Formula) → IsModule m → ReadsOnly (IsWireOf m) f →
+    Carries m (tokens (expression f)) (text m f) →
+    Carries m (tokens (fit goal (level f) (expression f))) (grouped (rank goal) (tightness f) (text m f))
 placed m goal f is own h =
     subst (λ (ts : List Token). Carries m ts (grouped (rank goal) (tightness f) (text m f))) (sym (fits goal (level f) (expression f)).spelled)
-    (subst (λ (r : ℕ). Carries m (cond (nat_lt r (rank goal)) (opening ∷ (tokens (expression f) ++ closing ∷ [])) (tokens (expression f))) (grouped (rank goal) (tightness f) (text m f))) (sym (level_rank f)) (chosen (nat_lt (tightness f) (rank goal))))
+    (subst (λ (r : ℕ). Carries m (cond (nat_lt r (rank goal)) (opening ∷ (tokens (expression f) ++ closing ∷ []))
+    (tokens (expression f))) (grouped (rank goal) (tightness f) (text m f))) (sym (level_rank f))
+    (chosen (nat_lt (tightness f) (rank goal))))
   where
     chosen : (b : Bool) → Carries m (cond b (opening ∷ (tokens (expression f) ++ closing ∷ [])) (tokens (expression f))) (cond b (codes "(" ++ (text m f ++ codes ")")) (text m f))
     chosen false = h
@@ -291,19 +399,25 @@ placed m goal f is own h =
         (subst (λ (x : List ℕ). Spells m (opening ∷ (tokens (expression f) ++ closing ∷ ts)) (40 ∷ x)) (sym (append_assoc (text m f) (41 ∷ []) rest)) outer)
 
 -- two parts with an operator between them
-between : (m : ModuleValue) (o : Operator) (xs ys : List Token) (x y : List ℕ) → Carries m xs x → Carries m ys y → Carries m (xs ++ operator o ∷ ys) (x ++ (32 ∷ (token_text m (operator o) ++ (32 ∷ y))))
+between : (m : ModuleValue) (o : Operator) (xs ys : List Token) (x y : List ℕ) → Carries m xs x → Carries m ys y →
+    Carries m (xs ++ operator o ∷ ys) (x ++ (32 ∷ (token_text m (operator o) ++ (32 ∷ y))))
 between m o xs ys x y hx hy ts rest ends s =
     let right : Spells m (ys ++ ts) (32 ∷ (y ++ rest)) = after_blank m (ys ++ ts) (y ++ rest) (hy ts rest ends s) in
     let sign = after_blank m (operator o ∷ (ys ++ ts)) _ (before m (operator o) (ys ++ ts) (32 ∷ (y ++ rest)) tt (blank_ends (y ++ rest) (operator o)) right) in
     let left = hx (operator o ∷ (ys ++ ts)) (32 ∷ (token_text m (operator o) ++ (32 ∷ (y ++ rest)))) (blank_ends (token_text m (operator o) ++ (32 ∷ (y ++ rest)))) sign in
     subst (λ (zs : List Token). Spells m zs ((x ++ (32 ∷ (token_text m (operator o) ++ (32 ∷ y)))) ++ rest)) (sym (append_assoc xs (operator o ∷ ys) ts))
-    (subst (λ (z : List ℕ). Spells m (xs ++ operator o ∷ (ys ++ ts)) z) (ap (λ (z : List ℕ). x ++ 32 ∷ z) (sym (append_assoc (token_text m (operator o)) (32 ∷ y) rest)) ∙ sym (append_assoc x _ rest)) left)
+    (subst (λ (z : List ℕ). Spells m (xs ++ operator o ∷ (ys ++ ts)) z)
+    (ap (λ (z : List ℕ). x ++ 32 ∷ z) (sym (append_assoc (token_text m (operator o)) (32 ∷ y) rest))
+    ∙ sym (append_assoc x _ rest)) left)
 
 pub spelled : (m : ModuleValue) (f : Formula) → IsModule m → ReadsOnly (IsWireOf m) f → Carries m (tokens (expression f)) (text m f)
 spelled m (Bit false) is own = λ ts rest ends s. before m (bit false) ts rest tt (ends (bit false)) s
 spelled m (Bit true) is own = λ ts rest ends s. before m (bit true) ts rest tt (ends (bit true)) s
 spelled m (Read w) is own = λ ts rest ends s. before m (name w) ts rest (wire_token m w is own) (ends (name w)) s
-spelled m (Not f) is own = λ ts rest ends s. before m tilde (tokens (fit primary (level f) (expression f)) ++ ts) (grouped 4 (tightness f) (text m f) ++ rest) tt (primary_first m f rest is own) (placed m primary f is own (spelled m f is own) ts rest ends s)
+spelled m (Not f) is own =
+    λ ts rest ends s. before m tilde (tokens (fit primary (level f) (expression f)) ++ ts)
+    (grouped 4 (tightness f) (text m f) ++ rest) tt (primary_first m f rest is own)
+    (placed m primary f is own (spelled m f is own) ts rest ends s)
 spelled m (And f g) is own = between m and _ _ _ _ (placed m (row and) f is own.0 (spelled m f is own.0)) (placed m unary g is own.1 (spelled m g is own.1))
 spelled m (Xor f g) is own = between m xor _ _ _ _ (placed m (row xor) f is own.0 (spelled m f is own.0)) (placed m (row and) g is own.1 (spelled m g is own.1))
 spelled m (Or f g) is own = between m or _ _ _ _ (alone (level f) (expression f) (spelled m f is own.0)) (placed m (row xor) g is own.1 (spelled m g is own.1))

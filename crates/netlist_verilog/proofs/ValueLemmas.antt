@@ -108,11 +108,15 @@ signals_settled n i at ok s (suc b) k lt fits = elim (cases_lt k b) [
   ]
 ]
   where
-    at_gate : ((m : ℕ) → m < b → m < signal_count n.gates → at (Signal m) ≡ signal n i m) → (g : ℕ) → g < length n.gates.gates → n.gates.inputs + g ≤ b → at (Signal (n.gates.inputs + g)) ≡ signal n i (n.gates.inputs + g)
+    at_gate : ((m : ℕ) → m < b → m < signal_count n.gates → at (Signal m) ≡ signal n i m) → (g : ℕ) →
+        g < length n.gates.gates → n.gates.inputs + g ≤ b →
+        at (Signal (n.gates.inputs + g)) ≡ signal n i (n.gates.inputs + g)
     at_gate before g lt' le =
         let gate = equation.gate_at n.gates g in
         let reads = gate_reads n.gates.inputs n.gates.gates g (record { j = 0; k = 0; table = 0 }) ok lt' in
-        let holds = (part_below (Holds at) (λ m. gate_equation n.gates.inputs m (equation.gate_at n.gates m) ∷ []) (length n.gates.gates) g lt' (first_part (Holds at) (gate_equations n.gates) _ s.equations_hold)).0 in
+        let holds =
+        (part_below (Holds at) (λ m. gate_equation n.gates.inputs m (equation.gate_at n.gates m) ∷ [])
+        (length n.gates.gates) g lt' (first_part (Holds at) (gate_equations n.gates) _ s.equations_hold)).0 in
         let p : at (Signal gate.j) ≡ signal n i gate.j = before gate.j (omega (arith, reads.0, reads.1, le)) (omega (arith, reads.0, reads.1, lt')) in
         let q : at (Signal gate.k) ≡ signal n i gate.k = before gate.k (omega (arith, reads.1, le)) (omega (arith, reads.1, lt')) in
         holds ∙ formula_is_table at gate.table (Signal gate.j) (Signal gate.k) ∙ ap₂ (gate_value gate.table) p q ∙ sym (signal_of_gate n i g ok lt')
@@ -120,7 +124,9 @@ signals_settled n i at ok s (suc b) k lt fits = elim (cases_lt k b) [
 -- ---- conditions
 
 -- a reference has the value of its signal
-ref_settled : (n : Netlist) (i : Inputs) (at : Wire → Bool) → ((k : ℕ) → k < signal_count n.gates → at (Signal k) ≡ signal n i k) → (r : Ref) → IsRefOver (signal_count n.gates) r → value at (ref_formula r) ≡ ref_value (signal_values n.gates i.x) r
+ref_settled : (n : Netlist) (i : Inputs) (at : Wire → Bool) →
+    ((k : ℕ) → k < signal_count n.gates → at (Signal k) ≡ signal n i k) → (r : Ref) →
+    IsRefOver (signal_count n.gates) r → value at (ref_formula r) ≡ ref_value (signal_values n.gates i.x) r
 ref_settled n i at h (references.Const b) over = refl
 ref_settled n i at h (references.Signal k false) over = h k over
 ref_settled n i at h (references.Signal k true) over = ap not (h k over)
@@ -132,7 +138,9 @@ pub record AreKnown (n : Netlist) (i : Inputs) (at : Wire → Bool) : Type 0 whe
   pub conditions : (v : ℕ) → v < length n.conditions → at (Condition v) ≡ condition_value n (signal_values n.gates i.x) v
   pub arcs : (u v : ℕ) → u < length n.conditions → v < length n.conditions → IsSome (wire_of n u v) → at (ArcCondition u v) ≡ wire_value (signal_values n.gates i.x) (wire_of n u v)
 
-arc_settled : (n : Netlist) (i : Inputs) (at : Wire → Bool) → ((k : ℕ) → k < signal_count n.gates → at (Signal k) ≡ signal n i k) → (u v : ℕ) (w : Option Ref) → IsWireOver (signal_count n.gates) w → IsSome w → AllByRecursion (Holds at) (arc_equation u v w)
+arc_settled : (n : Netlist) (i : Inputs) (at : Wire → Bool) →
+    ((k : ℕ) → k < signal_count n.gates → at (Signal k) ≡ signal n i k) → (u v : ℕ) (w : Option Ref) →
+    IsWireOver (signal_count n.gates) w → IsSome w → AllByRecursion (Holds at) (arc_equation u v w)
     → at (ArcCondition u v) ≡ wire_value (signal_values n.gates i.x) w
 arc_settled n i at h u v None over some holds = let t : false ≡ true = some in absurd cc
 arc_settled n i at h u v (Some r) over some holds = holds.0 ∙ ref_settled n i at h r over
@@ -150,12 +158,16 @@ alone : (f : Bool) → f ≡ (f && true)
 alone true = refl
 alone false = refl
 
-each_value : (at : Wire → Bool) (first : Formula) (passes : ℕ → Bool) (each : ℕ → Formula) (n : ℕ) → value at (and_each first passes each n) ≡ (value at first && all_below (λ k. not (passes k) || value at (each k)) n)
+each_value : (at : Wire → Bool) (first : Formula) (passes : ℕ → Bool) (each : ℕ → Formula) (n : ℕ) →
+    value at (and_each first passes each n) ≡
+    (value at first && all_below (λ k. not (passes k) || value at (each k)) n)
 each_value at first passes each zero = alone (value at first)
 each_value at first passes each (suc n) = one (passes n) (each_value at first passes each n)
   where
     one : (b : Bool) → value at (and_each first passes each n) ≡ (value at first && all_below (λ k. not (passes k) || value at (each k)) n)
-        → value at (cond b (And (and_each first passes each n) (each n)) (and_each first passes each n)) ≡ (value at first && ((not b || value at (each n)) && all_below (λ k. not (passes k) || value at (each k)) n))
+        → value at (cond b (And (and_each first passes each n) (each n)) (and_each first passes each n)) ≡
+        (value at first && ((not b || value at (each n)) && all_below
+        (λ k. not (passes k) || value at (each k)) n))
     one true h = ap (λ x. x && value at (each n)) h ∙ joined_true (value at first) (all_below (λ k. not (passes k) || value at (each k)) n) (value at (each n))
     one false h = h
 
@@ -181,7 +193,8 @@ and_assoc false y z = refl
 
 -- ---- outputs
 
-through_value : (n : Netlist) (i : Inputs) (at : Wire → Bool) → AreKnown n i at → (v : ℕ) → v < length n.conditions → value at (through_formula v) ≡ (set.contains i.acks v || not (condition_value n (signal_values n.gates i.x) v))
+through_value : (n : Netlist) (i : Inputs) (at : Wire → Bool) → AreKnown n i at → (v : ℕ) → v < length n.conditions →
+    value at (through_formula v) ≡ (set.contains i.acks v || not (condition_value n (signal_values n.gates i.x) v))
 through_value n i at h v lt = ap₂ (λ x y. x || not y) (h.acknowledges v lt) (h.conditions v lt)
 
 wait_value : (n : Netlist) (i : Inputs) (at : Wire → Bool) → IsNetlist n → AreKnown n i at → (v u : ℕ) → v < length n.conditions → u < length n.conditions
@@ -197,7 +210,9 @@ wait_value n i at is h v u lv lu = chosen (set.contains (waits_of n v) u) refl
 request_value : (n : Netlist) (i : Inputs) (at : Wire → Bool) → IsNetlist n → AreKnown n i at → (v : ℕ) → v < length n.conditions → value at (request_formula n v) ≡ request n i v
 request_value n i at is h v lt =
     each_value at _ (set.contains (waits_of n v)) (arc_formula v) (length n.conditions)
-    ∙ ap₂ (λ x y. x && y) (ap₂ (λ x y. x && y) h.go (h.conditions v lt)) (same_all _ (λ u. not (set.contains (waits_of n v) u) || arc_satisfied n (signal_values n.gates i.x) i.acks v u) (length n.conditions) (λ u lu. wait_value n i at is h v u lt lu))
+    ∙ ap₂ (λ x y. x && y) (ap₂ (λ x y. x && y) h.go (h.conditions v lt))
+    (same_all _ (λ u. not (set.contains (waits_of n v) u) || arc_satisfied n
+    (signal_values n.gates i.x) i.acks v u) (length n.conditions) (λ u lu. wait_value n i at is h v u lt lu))
     ∙ and_assoc i.go (condition_value n (signal_values n.gates i.x) v) _
 
 done_value : (n : Netlist) (i : Inputs) (at : Wire → Bool) → AreKnown n i at → value at (done_formula (length n.conditions)) ≡ done n i
@@ -236,9 +251,14 @@ outputs_settled m i at is s =
     let known : AreKnown n i at = record {
       go = s.go;
       acknowledges = s.acknowledges;
-      conditions = λ v lt. (part_below (Holds at) (λ w. condition_equation w (condition_of n w) ∷ []) count v lt (first_part (Holds at) (condition_part n) _ from2)).0 ∙ ref_settled n i at h (condition_of n v) (is.netlist.conditions_over v);
+      conditions =
+          λ v lt. (part_below (Holds at) (λ w. condition_equation w (condition_of n w) ∷ []) count v lt
+          (first_part (Holds at) (condition_part n) _ from2)).0
+          ∙ ref_settled n i at h (condition_of n v) (is.netlist.conditions_over v);
       arcs = λ u v lu lv some. arc_settled n i at h u v (wire_of n u v) (is.netlist.wires_over u v) some
-          (part_below (Holds at) (λ w. arc_equation u w (wire_of n u w)) count v lv (part_below (Holds at) (λ w. arc_equations_from n w count) count u lu (first_part (Holds at) (arc_part n) _ from3)));
+          (part_below (Holds at) (λ w. arc_equation u w (wire_of n u w)) count v lv
+          (part_below (Holds at) (λ w. arc_equations_from n w count) count u lu
+          (first_part (Holds at) (arc_part n) _ from3)));
     } in
     record {
       requests = λ v lt. (part_below (Holds at) (λ w. request_equation n w ∷ []) count v lt (first_part (Holds at) (request_part n) _ from4)).0 ∙ request_value n i at is.netlist known v lt;
@@ -278,9 +298,17 @@ values_settle m i is =
       acknowledges = λ v lt. refl;
       equations_hold =
           parts_joined (Holds at) (gate_equations n.gates) _
-          (parts_below (Holds at) (λ g. gate_equation n.gates.inputs g (equation.gate_at n.gates g) ∷ []) (length n.gates.gates) (λ g lt. (signal_of_gate n i g is.gates lt ∙ sym (formula_is_table at (equation.gate_at n.gates g).table (Signal (equation.gate_at n.gates g).j) (Signal (equation.gate_at n.gates g).k)), tt)))
+          (parts_below (Holds at) (λ g. gate_equation n.gates.inputs g (equation.gate_at n.gates g) ∷ [])
+          (length n.gates.gates) (λ g lt. (
+            signal_of_gate n i g is.gates lt
+                ∙ sym (formula_is_table at (equation.gate_at n.gates g).table (Signal (equation.gate_at n.gates g).j)
+                (Signal (equation.gate_at n.gates g).k)),
+            tt,
+          )))
           (parts_joined (Holds at) (condition_part n) _ (parts_below (Holds at) (λ v. condition_equation v (condition_of n v) ∷ []) count (λ v lt. (settled_ref n i (condition_of n v), tt)))
-          (parts_joined (Holds at) (arc_part n) _ (parts_below (Holds at) (λ u. arc_equations_from n u count) count (λ u lu. parts_below (Holds at) (λ v. arc_equation u v (wire_of n u v)) count (λ v lv. settled_arc n i u v (wire_of n u v) refl)))
+          (parts_joined (Holds at) (arc_part n) _ (parts_below (Holds at) (λ u. arc_equations_from n u count) count
+          (λ u lu. parts_below (Holds at) (λ v. arc_equation u v (wire_of n u v)) count
+          (λ v lv. settled_arc n i u v (wire_of n u v) refl)))
           (parts_joined (Holds at) (request_part n) (end_part n) (parts_below (Holds at) (λ v. request_equation n v ∷ []) count (λ v lt. (sym (request_value n i at is.netlist known v lt), tt)))
           (sym (done_value n i at known), (sym (idle_value n i at known), tt)))));
     }

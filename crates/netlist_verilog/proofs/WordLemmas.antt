@@ -36,8 +36,8 @@ digits_pass (d ∷ ds) h = (passes d (digit_from_value d h.0), digits_pass ds h.
         both true b h k = k
         both false b h k = absurd cc
 
-pub digits_told : (m n c : ℕ) (x y : List ℕ) → m < 2 ^ 64 → n < 2 ^ 64 → is_digit c ≡ false → decimal m ++ c ∷ x ≡ decimal n ++ c ∷ y → (m ≡ n) × (x ≡ y)
-digits_told m n c x y hm hn hc e =
+pub decimal_told : (m n c : ℕ) (x y : List ℕ) → m < 2 ^ 64 → n < 2 ^ 64 → is_digit c ≡ false → decimal m ++ c ∷ x ≡ decimal n ++ c ∷ y → (m ≡ n) × (x ≡ y)
+decimal_told m n c x y hm hn hc e =
     let r = word_told is_digit (decimal m) (decimal n) c x y (digits_pass (decimal m) ((decimal_is_IsNumeral m hm).0.1)) (digits_pass (decimal n) ((decimal_is_IsNumeral n hn).0.1)) hc e in
     (decimal_injective m n hm hn r.0, r.1)
 
@@ -83,7 +83,7 @@ signal_told inputs m n c x y hm hn hc e =
 -- ---- references
 
 -- a signal begins with a letter, and neither a digit nor a tilde is x or g
-not_signal : (inputs n b : ℕ) (x y : List ℕ) → (b ≡ 120 → ⊥) → (b ≡ 103 → ⊥) → signal_text inputs n ++ x ≡ b ∷ y → ⊥
+pub not_signal : (inputs n b : ℕ) (x y : List ℕ) → (b ≡ 120 → ⊥) → (b ≡ 103 → ⊥) → signal_text inputs n ++ x ≡ b ∷ y → ⊥
 not_signal inputs n b x y not_x not_g e = elim (signal_cases inputs n) [
   | inl h ↦ not_x (sym (heads 120 b _ _ (ap (λ (w : List ℕ). w ++ x) (sym h.1) ∙ e)))
   | inr h ↦ not_g (sym (heads 103 b _ _ (ap (λ (w : List ℕ). w ++ x) (sym h.1) ∙ e)))
@@ -110,7 +110,9 @@ ref_told inputs names signals (Signal m true) (Const true) c x y fit hr hs hc e 
 ref_told inputs names signals (Signal m false) (Signal n true) c x y fit hr hs hc e = absurd (not_signal inputs m 126 _ _ (λ h. omega (arith, h)) (λ h. omega (arith, h)) e)
 ref_told inputs names signals (Signal m true) (Signal n false) c x y fit hr hs hc e = absurd (not_signal inputs n 126 _ _ (λ h. omega (arith, h)) (λ h. omega (arith, h)) (sym e))
 ref_told inputs names signals (Signal m false) (Signal n false) c x y fit hr hs hc e = let t = signal_told inputs m n c x y (omega arith) (omega arith) hc e in (ap (λ k. Signal k false) t.0, t.1)
-ref_told inputs names signals (Signal m true) (Signal n true) c x y fit hr hs hc e = let t = signal_told inputs m n c x y (omega arith) (omega arith) hc (tails 126 126 _ _ e) in (ap (λ k. Signal k true) t.0, t.1)
+ref_told inputs names signals (Signal m true) (Signal n true) c x y fit hr hs hc e = let t =
+    signal_told inputs m n c x y (omega arith) (omega arith) hc (tails 126 126 _ _ e) in
+    (ap (λ k. Signal k true) t.0, t.1)
 
 -- ---- names
 

@@ -30,7 +30,9 @@ pub text_more : (a : List ℕ) (ls ms : List (List ℕ)) → (a ++ text_of ls) +
 text_more a ls ms = append_assoc a (text_of ls) (text_of ms) ∙ ap (λ x. a ++ x) (sym (flat_map-append (λ l. l ++ 10 ∷ []) ls ms))
 
 -- one more group of equations
-pub equations_more : (m : ModuleValue) (f : ℕ → List Equation) (n : ℕ) (a b : List ℕ) → b ≡ a ++ text_of (equation_rows m (each_below f n)) → b ++ text_of (equation_rows m (f n)) ≡ a ++ text_of (equation_rows m (each_below f (n + 1)))
+pub equations_more : (m : ModuleValue) (f : ℕ → List Equation) (n : ℕ) (a b : List ℕ) →
+    b ≡ a ++ text_of (equation_rows m (each_below f n)) →
+    b ++ text_of (equation_rows m (f n)) ≡ a ++ text_of (equation_rows m (each_below f (n + 1)))
 equations_more m f n a b h =
     ap (λ x. x ++ text_of (equation_rows m (f n))) h
     ∙ text_more a (equation_rows m (each_below f n)) (equation_rows m (f n))
@@ -71,7 +73,8 @@ none_joined true f a = record { written = sym (append-nil a); left = refl }
 none_joined false f a = record { written = sym (append-nil a); left = refl }
 
 -- one more text of a list
-pub joined_more : (first here : Bool) (f : ℕ → List ℕ) (n : ℕ) (sep t a b new : List ℕ) → sep ≡ separator here → t ≡ f n → new ≡ b ++ (sep ++ t) → IsJoined first here f n a b → IsJoined first false f (n + 1) a new
+pub joined_more : (first here : Bool) (f : ℕ → List ℕ) (n : ℕ) (sep t a b new : List ℕ) → sep ≡ separator here →
+    t ≡ f n → new ≡ b ++ (sep ++ t) → IsJoined first here f n a b → IsJoined first false f (n + 1) a new
 joined_more first here f n sep t a b new es et e h =
     let before : List (List ℕ) = each_below (λ k. f k ∷ []) n in
     record {
@@ -86,11 +89,15 @@ joined_more first here f n sep t a b new es et e h =
     }
 
 -- one more group of wires behind commas
-pub wires_more : (m : ModuleValue) (f : ℕ → List Wire) (n : ℕ) (a b : List ℕ) → b ≡ a ++ joined false (wire_texts m (each_below f n)) → b ++ joined false (wire_texts m (f n)) ≡ a ++ joined false (wire_texts m (each_below f (n + 1)))
+pub wires_more : (m : ModuleValue) (f : ℕ → List Wire) (n : ℕ) (a b : List ℕ) →
+    b ≡ a ++ joined false (wire_texts m (each_below f n)) →
+    b ++ joined false (wire_texts m (f n)) ≡ a ++ joined false (wire_texts m (each_below f (n + 1)))
 wires_more m f n a b h =
     ap (λ x. x ++ joined false (wire_texts m (f n))) h
     ∙ append_assoc a (joined false (wire_texts m (each_below f n))) (joined false (wire_texts m (f n)))
-    ∙ ap (λ x. a ++ x) (sym (joined_append false (wire_texts m (each_below f n)) (wire_texts m (f n))) ∙ ap (joined false) (sym (map-append _ (each_below f n) (f n))) ∙ ap (λ k. joined false (wire_texts m (each_below f k))) (sym (add-one n)))
+    ∙ ap (λ x. a ++ x) (sym (joined_append false (wire_texts m (each_below f n)) (wire_texts m (f n)))
+    ∙ ap (joined false) (sym (map-append _ (each_below f n) (f n)))
+    ∙ ap (λ k. joined false (wire_texts m (each_below f k))) (sym (add-one n)))
 
 -- the texts of wires by number
 pub texts_below : (m : ModuleValue) (f : ℕ → Wire) (n : ℕ) → wire_texts m (each_below (λ k. f k ∷ []) n) ≡ each_below (λ k. wire_texts m (f k ∷ [])) n
@@ -106,7 +113,8 @@ table_small (x ∷ gates) signals zero d h lt = h.2
 table_small (x ∷ gates) signals (suc g) d h lt = table_small gates (signals + 1) g d h.3 (omega arith)
 
 -- formulas that are joined by & stand without parentheses on its left
-each_tight : (first : Formula) (passes : ℕ → Bool) (each : ℕ → Formula) (n : ℕ) (text : List ℕ) → grouped 2 (tightness first) text ≡ text → grouped 2 (tightness (and_each first passes each n)) text ≡ text
+each_tight : (first : Formula) (passes : ℕ → Bool) (each : ℕ → Formula) (n : ℕ) (text : List ℕ) →
+    grouped 2 (tightness first) text ≡ text → grouped 2 (tightness (and_each first passes each n)) text ≡ text
 each_tight first passes each zero text h = h
 each_tight first passes each (suc n) text h = chosen (passes n) (and_each first passes each n) (each n) (each_tight first passes each n text h)
   where
@@ -131,10 +139,14 @@ each_text m first passes each (suc n) h =
 -- ---- whole lines
 
 -- an equation's line, written in three pieces
-pub row_written : (target f a o1 o2 o3 : List ℕ) → o1 ≡ a ++ (codes "  assign " ++ (target ++ codes " = ")) → o2 ≡ o1 ++ f → o3 ≡ o2 ++ codes ";\n" → o3 ≡ a ++ text_of ((codes "  assign " ++ (target ++ (codes " = " ++ (f ++ codes ";")))) ∷ [])
+pub row_written : (target f a o1 o2 o3 : List ℕ) → o1 ≡ a ++ (codes "  assign " ++ (target ++ codes " = ")) →
+    o2 ≡ o1 ++ f → o3 ≡ o2 ++ codes ";\n" → o3 ≡ a ++ text_of
+    ((codes "  assign " ++ (target ++ (codes " = " ++ (f ++ codes ";")))) ∷ [])
 row_written target f a o1 o2 o3 e1 e2 e3 = e3 ∙ ap (λ x. x ++ codes ";\n") (e2 ∙ ap (λ x. x ++ f) e1) ∙ simp (append_assoc, append-nil)
 
-pub condition_written : (m : ModuleValue) (v : ℕ) (name : List ℕ) (ref : Ref) (a o1 o2 o3 : List ℕ) → name ≡ name_of m.names v → ref ≡ condition_of m.netlist v → o1 ≡ a ++ (codes "  assign c_" ++ (name ++ codes " = "))
+pub condition_written : (m : ModuleValue) (v : ℕ) (name : List ℕ) (ref : Ref) (a o1 o2 o3 : List ℕ) →
+    name ≡ name_of m.names v → ref ≡ condition_of m.netlist v →
+    o1 ≡ a ++ (codes "  assign c_" ++ (name ++ codes " = "))
     → o2 ≡ o1 ++ formula_text m.netlist.gates.inputs m.names (ref_formula ref) → o3 ≡ o2 ++ codes ";\n" → o3 ≡ a ++ text_of (equation_rows m (condition_equation v (condition_of m.netlist v) ∷ []))
 condition_written m v name ref a o1 o2 o3 en er e1 e2 e3 =
     row_written (codes "c_" ++ name_of m.names v) (formula_text m.netlist.gates.inputs m.names (ref_formula (condition_of m.netlist v))) a o1 o2 o3
@@ -142,7 +154,9 @@ condition_written m v name ref a o1 o2 o3 en er e1 e2 e3 =
     (e2 ∙ ap (λ r. o1 ++ formula_text m.netlist.gates.inputs m.names (ref_formula r)) er)
     e3
 
-pub gate_written : (m : ModuleValue) (bits g : ℕ) (gate : Gate) (a o1 o2 o3 : List ℕ) → bits ≡ m.netlist.gates.inputs → gate ≡ gate_at m.netlist.gates g → o1 ≡ a ++ (codes "  assign " ++ (signal_text bits (bits + g) ++ codes " = "))
+pub gate_written : (m : ModuleValue) (bits g : ℕ) (gate : Gate) (a o1 o2 o3 : List ℕ) →
+    bits ≡ m.netlist.gates.inputs → gate ≡ gate_at m.netlist.gates g →
+    o1 ≡ a ++ (codes "  assign " ++ (signal_text bits (bits + g) ++ codes " = "))
     → o2 ≡ o1 ++ function_text m gate → o3 ≡ o2 ++ codes ";\n" → o3 ≡ a ++ text_of (equation_rows m (gate_equation m.netlist.gates.inputs g (gate_at m.netlist.gates g) ∷ []))
 gate_written m bits g gate a o1 o2 o3 eb eg e1 e2 e3 =
     let e = gate_equation m.netlist.gates.inputs g (gate_at m.netlist.gates g) in
@@ -157,7 +171,9 @@ gate_written m bits g gate a o1 o2 o3 eb eg e1 e2 e3 =
 
 -- a line whose formula goes on after its first part
 pub each_written : (m : ModuleValue) (w : Wire) (first : Formula) (passes : ℕ → Bool) (each : ℕ → Formula) (n : ℕ) (a o1 o2 o3 : List ℕ) → ((text : List ℕ) → grouped 2 (tightness first) text ≡ text)
-    → o1 ≡ a ++ (codes "  assign " ++ (wire_text m.netlist.gates.inputs m.names w ++ (codes " = " ++ formula_text m.netlist.gates.inputs m.names first))) → o2 ≡ o1 ++ each_below (λ k. and_text m (passes k) (each k)) n → o3 ≡ o2 ++ codes ";\n"
+    → o1 ≡ a ++ (codes "  assign " ++ (wire_text m.netlist.gates.inputs m.names w ++
+    (codes " = " ++ formula_text m.netlist.gates.inputs m.names first))) →
+    o2 ≡ o1 ++ each_below (λ k. and_text m (passes k) (each k)) n → o3 ≡ o2 ++ codes ";\n"
     → o3 ≡ a ++ text_of (equation_rows m (record { wire = w; formula = and_each first passes each n; comment = None } ∷ []))
 each_written m w first passes each n a o1 o2 o3 tight e1 e2 e3 =
     let name = wire_text m.netlist.gates.inputs m.names w in
@@ -171,7 +187,9 @@ each_written m w first passes each n a o1 o2 o3 tight e1 e2 e3 =
     pieces a name begin more = simp append_assoc
 
 pub request_written : (m : ModuleValue) (v : ℕ) (name : List ℕ) (a o1 o2 o3 : List ℕ) → name ≡ name_of m.names v → o1 ≡ a ++ (codes "  assign r_" ++ (name ++ (codes " = go & c_" ++ name)))
-    → o2 ≡ o1 ++ each_below (λ u. and_text m (set.contains (waits_of m.netlist v) u) (arc_formula v u)) (length m.netlist.conditions) → o3 ≡ o2 ++ codes ";\n" → o3 ≡ a ++ text_of (equation_rows m (request_equation m.netlist v ∷ []))
+    → o2 ≡ o1 ++ each_below (λ u. and_text m (set.contains (waits_of m.netlist v) u) (arc_formula v u))
+    (length m.netlist.conditions) → o3 ≡ o2 ++ codes ";\n" →
+    o3 ≡ a ++ text_of (equation_rows m (request_equation m.netlist v ∷ []))
 request_written m v name a o1 o2 o3 en e1 e2 e3 =
     each_written m (Request v) (And (Read Go) (Read (Condition v))) (set.contains (waits_of m.netlist v)) (arc_formula v) (length m.netlist.conditions) a o1 o2 o3 (λ text. refl)
     (e1 ∙ ap (λ x. a ++ (codes "  assign r_" ++ (x ++ (codes " = go & c_" ++ x)))) en) e2 e3
@@ -187,15 +205,20 @@ wait_joined name du dv =
     ∙ append_assoc first second (third ++ codes ")")
     ∙ ap (λ x. first ++ (second ++ (codes " | ~e" ++ x))) (append_assoc du (codes "_" ++ dv) (codes ")"))))
 
-pub wait_written : (m : ModuleValue) (u v : ℕ) (name : List ℕ) (waits : Set) (here : Bool) (a new : List ℕ) → name ≡ name_of m.names u → waits ≡ waits_of m.netlist v → here ≡ set.contains waits u → here ≡ true
-    → new ≡ a ++ (codes " & (a_" ++ (name ++ (codes " | ~c_" ++ (name ++ (codes " | ~e" ++ (decimal u ++ (codes "_" ++ (decimal v ++ codes ")")))))))) → new ≡ a ++ and_text m (set.contains (waits_of m.netlist v) u) (arc_formula v u)
+pub wait_written : (m : ModuleValue) (u v : ℕ) (name : List ℕ) (waits : Set) (here : Bool) (a new : List ℕ) →
+    name ≡ name_of m.names u → waits ≡ waits_of m.netlist v → here ≡ set.contains waits u → here ≡ true
+    → new ≡ a ++ (codes " & (a_" ++ (name ++
+    (codes " | ~c_" ++ (name ++ (codes " | ~e" ++ (decimal u ++ (codes "_" ++ (decimal v ++ codes ")")))))))) →
+    new ≡ a ++ and_text m (set.contains (waits_of m.netlist v) u) (arc_formula v u)
 wait_written m u v name waits here a new en ew eh yes' e =
     e
     ∙ ap (λ x. a ++ x) (wait_joined name (decimal u) (decimal v))
     ∙ ap (λ x. a ++ (codes " & (" ++ ((((codes "a_" ++ x) ++ (codes " | ~c_" ++ x)) ++ (codes " | ~e" ++ (decimal u ++ (codes "_" ++ decimal v)))) ++ codes ")"))) en
     ∙ ap (λ b. a ++ and_text m b (arc_formula v u)) (sym yes' ∙ eh ∙ ap (λ s. set.contains s u) ew)
 
-pub no_wait_written : (m : ModuleValue) (u v : ℕ) (waits : Set) (here : Bool) (a : List ℕ) → waits ≡ waits_of m.netlist v → here ≡ set.contains waits u → here ≡ false → a ≡ a ++ and_text m (set.contains (waits_of m.netlist v) u) (arc_formula v u)
+pub no_wait_written : (m : ModuleValue) (u v : ℕ) (waits : Set) (here : Bool) (a : List ℕ) →
+    waits ≡ waits_of m.netlist v → here ≡ set.contains waits u → here ≡ false →
+    a ≡ a ++ and_text m (set.contains (waits_of m.netlist v) u) (arc_formula v u)
 no_wait_written m u v waits here a ew eh no' = sym (append-nil a) ∙ ap (λ b. a ++ and_text m b (arc_formula v u)) (sym no' ∙ eh ∙ ap (λ s. set.contains s u) ew)
 
 through_joined : (name : List ℕ) → codes " & (a_" ++ (name ++ (codes " | ~c_" ++ (name ++ codes ")"))) ≡ codes " & (" ++ (((codes "a_" ++ name) ++ (codes " | ~c_" ++ name)) ++ codes ")")
@@ -237,11 +260,15 @@ input_texts m =
     map-append _ (signals_from 0 m.netlist.gates.inputs) (Go ∷ for_each Acknowledge (length m.netlist.conditions))
     ∙ ap₂ (λ x y. x ++ (codes "go" ∷ y)) (texts_below m (λ k. Signal (0 + k)) m.netlist.gates.inputs) (texts_below m Acknowledge (length m.netlist.conditions))
 
-pub output_texts : (m : ModuleValue) → wire_texts m (output_wires m.netlist) ≡ each_below (λ v. (codes "r_" ++ name_of m.names v) ∷ []) (length m.netlist.conditions) ++ (codes "done" ∷ codes "idle" ∷ [])
-output_texts m = map-append _ (for_each Request (length m.netlist.conditions)) (Done ∷ Idle ∷ []) ∙ ap (λ x. x ++ (codes "done" ∷ codes "idle" ∷ [])) (texts_below m Request (length m.netlist.conditions))
+pub output_texts : (m : ModuleValue) → wire_texts m (output_wires m.netlist) ≡ each_below
+    (λ v. (codes "r_" ++ name_of m.names v) ∷ []) (length m.netlist.conditions) ++ (codes "done" ∷ codes "idle" ∷ [])
+output_texts m =
+    map-append _ (for_each Request (length m.netlist.conditions)) (Done ∷ Idle ∷ [])
+    ∙ ap (λ x. x ++ (codes "done" ∷ codes "idle" ∷ [])) (texts_below m Request (length m.netlist.conditions))
 
 pub inputs_written : (m : ModuleValue) (bits count : ℕ) (names : List (List ℕ)) (a o1 o2 o3 : List ℕ) → IsModule m → bits ≡ m.netlist.gates.inputs → count ≡ bits → names ≡ m.names
-    → o1 ≡ a ++ joined true (each_below (λ k. signal_text bits (0 + k) ∷ []) count) → o2 ≡ o1 ++ codes ", go" → o3 ≡ o2 ++ joined false (each_below (λ v. (codes "a_" ++ name_of names v) ∷ []) (length names))
+    → o1 ≡ a ++ joined true (each_below (λ k. signal_text bits (0 + k) ∷ []) count) → o2 ≡ o1 ++ codes ", go" →
+    o3 ≡ o2 ++ joined false (each_below (λ v. (codes "a_" ++ name_of names v) ∷ []) (length names))
     → o3 ≡ a ++ joined true (wire_texts m (input_wires m.netlist))
 inputs_written m bits count names a o1 o2 o3 is eb ec en e1 e2 e3 =
     let ts : ℕ → ℕ → List (List ℕ) = λ b n. each_below (λ k. signal_text b (0 + k) ∷ []) n in
@@ -257,7 +284,8 @@ inputs_written m bits count names a o1 o2 o3 is eb ec en e1 e2 e3 =
     ∙ ap (λ x. a ++ x) (sym (ap (joined true) (input_texts m) ∙ middle (codes "go") (ts inputs inputs) acks (nil_below (λ k. signal_text inputs (0 + k)) inputs ∙ positive inputs is.some_input)))
 
 pub outputs_written : (m : ModuleValue) (len : ℕ) (names : List (List ℕ)) (sep a o1 o2 : List ℕ) → IsModule m → names ≡ m.names → len ≡ length names → sep ≡ separator (eqb len 0)
-    → o1 ≡ a ++ joined true (each_below (λ v. (codes "r_" ++ name_of names v) ∷ []) (length names)) → o2 ≡ o1 ++ (sep ++ codes "done, idle") → o2 ≡ a ++ joined true (wire_texts m (output_wires m.netlist))
+    → o1 ≡ a ++ joined true (each_below (λ v. (codes "r_" ++ name_of names v) ∷ []) (length names)) →
+    o2 ≡ o1 ++ (sep ++ codes "done, idle") → o2 ≡ a ++ joined true (wire_texts m (output_wires m.netlist))
 outputs_written m len names sep a o1 o2 is en el es e1 e2 =
     let us : List (List ℕ) → ℕ → List (List ℕ) = λ ns n. each_below (λ v. (codes "r_" ++ name_of ns v) ∷ []) n in
     let count = length m.netlist.conditions in
@@ -270,8 +298,11 @@ outputs_written m len names sep a o1 o2 is en el es e1 e2 =
     ∙ ap (λ x. a ++ x) (sym (ap (joined true) (output_texts m) ∙ joined_append true reqs (codes "done" ∷ codes "idle" ∷ [])))
 
 -- the header and the ports
-pub ports_written : (inputs outputs a o1 o2 o3 o4 o5 o6 o7 o8 o9 : List ℕ) → o1 ≡ a ++ codes "module cpog(" → o2 ≡ o1 ++ inputs → o3 ≡ o2 ++ codes ", " → o4 ≡ o3 ++ outputs → o5 ≡ o4 ++ codes ");\n  input " → o6 ≡ o5 ++ inputs → o7 ≡ o6 ++ codes ";\n  output " → o8 ≡ o7 ++ outputs → o9 ≡ o8 ++ codes ";\n"
-    → o9 ≡ a ++ text_of ((codes "module cpog(" ++ (inputs ++ (codes ", " ++ (outputs ++ codes ");")))) ∷ (codes "  input " ++ (inputs ++ codes ";")) ∷ (codes "  output " ++ (outputs ++ codes ";")) ∷ [])
+pub ports_written : (inputs outputs a o1 o2 o3 o4 o5 o6 o7 o8 o9 : List ℕ) → o1 ≡ a ++ codes "module cpog(" →
+    o2 ≡ o1 ++ inputs → o3 ≡ o2 ++ codes ", " → o4 ≡ o3 ++ outputs → o5 ≡ o4 ++ codes ");\n  input " →
+    o6 ≡ o5 ++ inputs → o7 ≡ o6 ++ codes ";\n  output " → o8 ≡ o7 ++ outputs → o9 ≡ o8 ++ codes ";\n"
+    → o9 ≡ a ++ text_of ((codes "module cpog(" ++ (inputs ++ (codes ", " ++ (outputs ++ codes ");")))) ∷
+    (codes "  input " ++ (inputs ++ codes ";")) ∷ (codes "  output " ++ (outputs ++ codes ";")) ∷ [])
 ports_written i o a o1 o2 o3 o4 o5 o6 o7 o8 o9 e1 e2 e3 e4 e5 e6 e7 e8 e9 =
     let header : List ℕ = codes "module cpog(" ++ (i ++ (codes ", " ++ (o ++ codes ");"))) in
     let first : List ℕ = codes "  input " ++ (i ++ codes ";") in
@@ -279,10 +310,13 @@ ports_written i o a o1 o2 o3 o4 o5 o6 o7 o8 o9 e1 e2 e3 e4 e5 e6 e7 e8 e9 =
     let q5 : o5 ≡ (a ++ text_of (header ∷ [])) ++ codes "  input " =
     e5 ∙ ap (λ x. x ++ codes ");\n  input ") (e4 ∙ ap (λ x. x ++ o) (e3 ∙ ap (λ x. x ++ codes ", ") (e2 ∙ ap (λ x. x ++ i) e1))) ∙ head i o a in
     let q7 : o7 ≡ (a ++ text_of (header ∷ first ∷ [])) ++ codes "  output " =
-    e7 ∙ ap (λ x. x ++ codes ";\n  output ") (e6 ∙ ap (λ x. x ++ i) q5) ∙ port (a ++ text_of (header ∷ [])) (codes "  input ") i (codes "  output ") ∙ ap (λ x. x ++ codes "  output ") (text_more a (header ∷ []) (first ∷ [])) in
+    e7 ∙ ap (λ x. x ++ codes ";\n  output ") (e6 ∙ ap (λ x. x ++ i) q5)
+    ∙ port (a ++ text_of (header ∷ [])) (codes "  input ") i (codes "  output ")
+    ∙ ap (λ x. x ++ codes "  output ") (text_more a (header ∷ []) (first ∷ [])) in
     e9 ∙ ap (λ x. x ++ codes ";\n") (e8 ∙ ap (λ x. x ++ o) q7) ∙ port (a ++ text_of (header ∷ first ∷ [])) (codes "  output ") o [] ∙ append-nil _ ∙ text_more a (header ∷ first ∷ []) (second ∷ [])
   where
-    head : (i o a : List ℕ) → ((((a ++ codes "module cpog(") ++ i) ++ codes ", ") ++ o) ++ codes ");\n  input " ≡ (a ++ text_of ((codes "module cpog(" ++ (i ++ (codes ", " ++ (o ++ codes ");")))) ∷ [])) ++ codes "  input "
+    head : (i o a : List ℕ) → ((((a ++ codes "module cpog(") ++ i) ++ codes ", ") ++ o) ++ codes ");\n  input " ≡
+        (a ++ text_of ((codes "module cpog(" ++ (i ++ (codes ", " ++ (o ++ codes ");")))) ∷ [])) ++ codes "  input "
     head i o a = simp (append_assoc, append-nil)
 
     port : (b front t next : List ℕ) → ((b ++ front) ++ t) ++ (codes ";\n" ++ next) ≡ (b ++ text_of ((front ++ (t ++ codes ";")) ∷ [])) ++ next
@@ -308,7 +342,9 @@ nil_both true false c h = refl
 nil_both false b c h = refl
 
 pub inner_texts : (m : ModuleValue) → wire_texts m (inner_wires m.netlist)
-    ≡ each_below (λ k. signal_text m.netlist.gates.inputs (m.netlist.gates.inputs + k) ∷ []) (length m.netlist.gates.gates) ++ (each_below (λ v. (codes "c_" ++ name_of m.names v) ∷ []) (length m.netlist.conditions) ++ wire_texts m (arc_wires m.netlist))
+    ≡ each_below (λ k. signal_text m.netlist.gates.inputs (m.netlist.gates.inputs + k) ∷ [])
+    (length m.netlist.gates.gates) ++ (each_below (λ v. (codes "c_" ++ name_of m.names v) ∷ [])
+    (length m.netlist.conditions) ++ wire_texts m (arc_wires m.netlist))
 inner_texts m =
     map-append _ (signals_from m.netlist.gates.inputs (length m.netlist.gates.gates)) (for_each Condition (length m.netlist.conditions) ++ arc_wires m.netlist)
     ∙ ap₂ (λ x y. x ++ y) (texts_below m (λ k. Signal (m.netlist.gates.inputs + k)) (length m.netlist.gates.gates))
@@ -320,9 +356,14 @@ no_wire_lines m n en h =
     let n0 : length m.netlist.conditions ≡ 0 = omega arith in
     ap₂ (λ g k. wire_lines (wire_texts m (signals_from m.netlist.gates.inputs g ++ (for_each Condition k ++ each_below (λ u. arc_wires_from m.netlist u k) k)))) g0 n0
 
-pub wires_written : (m : ModuleValue) (bits start gates : ℕ) (first : Bool) (names : List (List ℕ)) (a o1 o2 o3 o4 o5 : List ℕ) → IsModule m → 0 < length m.netlist.gates.gates + length m.netlist.conditions
-    → bits ≡ m.netlist.gates.inputs → start ≡ bits → gates ≡ length m.netlist.gates.gates → first ≡ eqb gates 0 → names ≡ m.names → o1 ≡ a ++ codes "  wire " → o2 ≡ o1 ++ joined true (each_below (λ k. signal_text bits (start + k) ∷ []) gates)
-    → o3 ≡ o2 ++ joined first (each_below (λ v. (codes "c_" ++ name_of names v) ∷ []) (length names)) → o4 ≡ o3 ++ joined false (wire_texts m (arc_wires m.netlist)) → o5 ≡ o4 ++ codes ";\n" → o5 ≡ a ++ text_of (wire_lines (wire_texts m (inner_wires m.netlist)))
+pub wires_written : (m : ModuleValue) (bits start gates : ℕ) (first : Bool) (names : List (List ℕ))
+    (a o1 o2 o3 o4 o5 : List ℕ) → IsModule m → 0 < length m.netlist.gates.gates + length m.netlist.conditions
+    → bits ≡ m.netlist.gates.inputs → start ≡ bits → gates ≡ length m.netlist.gates.gates → first ≡ eqb gates 0 →
+    names ≡ m.names → o1 ≡ a ++ codes "  wire " →
+    o2 ≡ o1 ++ joined true (each_below (λ k. signal_text bits (start + k) ∷ []) gates)
+    → o3 ≡ o2 ++ joined first (each_below (λ v. (codes "c_" ++ name_of names v) ∷ []) (length names)) →
+    o4 ≡ o3 ++ joined false (wire_texts m (arc_wires m.netlist)) → o5 ≡ o4 ++ codes ";\n" →
+    o5 ≡ a ++ text_of (wire_lines (wire_texts m (inner_wires m.netlist)))
 wires_written m bits start gates first names a o1 o2 o3 o4 o5 is some eb es eg ef en e1 e2 e3 e4 e5 =
     let inputs = m.netlist.gates.inputs in
     let count = length m.netlist.conditions in
@@ -344,7 +385,8 @@ wires_written m bits start gates first names a o1 o2 o3 o4 o5 is some eb es eg e
     let p2 : o2 ≡ (a ++ codes "  wire ") ++ joined true gs =
     e2 ∙ ap₂ (λ x n. x ++ joined true (ts bits start n)) e1 eg ∙ ap₂ (λ b s. (a ++ codes "  wire ") ++ joined true (ts b s g)) eb (es ∙ eb) in
     let p3 : o3 ≡ ((a ++ codes "  wire ") ++ joined true gs) ++ joined (is_nil gs) cs =
-    e3 ∙ ap₂ (λ x y. x ++ joined first y) p2 (ap (λ ns. us ns (length ns)) en ∙ ap (us m.names) is.one_name_each) ∙ ap (λ b. ((a ++ codes "  wire ") ++ joined true gs) ++ joined b cs) (ef ∙ ap (λ n. eqb n 0) eg ∙ sym ng) in
+    e3 ∙ ap₂ (λ x y. x ++ joined first y) p2 (ap (λ ns. us ns (length ns)) en ∙ ap (us m.names) is.one_name_each)
+    ∙ ap (λ b. ((a ++ codes "  wire ") ++ joined true gs) ++ joined b cs) (ef ∙ ap (λ n. eqb n 0) eg ∙ sym ng) in
     e5
     ∙ ap (λ x. x ++ codes ";\n") (e4 ∙ ap (λ x. x ++ joined false arcs) p3)
     ∙ pieces a (joined true gs) (joined (is_nil gs) cs) (joined false arcs)
@@ -355,7 +397,9 @@ wires_written m bits start gates first names a o1 o2 o3 o4 o5 is some eb es eg e
 
 -- ---- the whole module
 
-parts_written : (p w r1 r2 r3 r4 : List (List ℕ)) (d i e a : List ℕ) → let t : List (List ℕ) → List ℕ = text_of in ((((((((a ++ t p) ++ t w) ++ t r1) ++ t r2) ++ t r3) ++ t r4) ++ t (d ∷ [])) ++ t (i ∷ [])) ++ t (e ∷ [])
+parts_written : (p w r1 r2 r3 r4 : List (List ℕ)) (d i e a : List ℕ) → let t : List (List ℕ) → List ℕ =
+    text_of in ((((((((a ++ t p) ++ t w) ++ t r1) ++ t r2) ++ t r3) ++ t r4) ++ t (d ∷ [])) ++ t (i ∷ [])) ++ t
+    (e ∷ [])
     ≡ a ++ t (p ++ (w ++ ((r1 ++ (r2 ++ (r3 ++ (r4 ++ (d ∷ i ∷ []))))) ++ e ∷ [])))
 parts_written p w r1 r2 r3 r4 d i e a =
     let x1 : List ℕ = (a ++ text_of p) ++ text_of w in
@@ -374,16 +418,21 @@ parts_written p w r1 r2 r3 r4 d i e a =
     ∙ ap (λ ls. r1 ++ ls) (append_assoc r2 (r3 ++ (r4 ++ (d ∷ i ∷ []))) (e ∷ [])
     ∙ ap (λ ls. r2 ++ ls) (append_assoc r3 (r4 ++ (d ∷ i ∷ [])) (e ∷ []) ∙ ap (λ ls. r3 ++ ls) (append_assoc r4 (d ∷ i ∷ []) (e ∷ []))))))
 
-pub rows_split : (m : ModuleValue) (e1 e2 e3 e4 es : List Equation) → equation_rows m (e1 ++ (e2 ++ (e3 ++ (e4 ++ es)))) ≡ equation_rows m e1 ++ (equation_rows m e2 ++ (equation_rows m e3 ++ (equation_rows m e4 ++ equation_rows m es)))
+pub rows_split : (m : ModuleValue) (e1 e2 e3 e4 es : List Equation) →
+    equation_rows m (e1 ++ (e2 ++ (e3 ++ (e4 ++ es)))) ≡ equation_rows m e1 ++
+    (equation_rows m e2 ++ (equation_rows m e3 ++ (equation_rows m e4 ++ equation_rows m es)))
 rows_split m e1 e2 e3 e4 es =
     map-append _ e1 (e2 ++ (e3 ++ (e4 ++ es)))
     ∙ ap (λ x. equation_rows m e1 ++ x) (map-append _ e2 (e3 ++ (e4 ++ es))
     ∙ ap (λ x. equation_rows m e2 ++ x) (map-append _ e3 (e4 ++ es) ∙ ap (λ x. equation_rows m e3 ++ x) (map-append _ e4 es)))
 
-pub module_written : (m : ModuleValue) (a o1 o2 o3 o4 o5 o6 o7 o8 o9 : List ℕ) → let n : Netlist = m.netlist in let count : ℕ = length n.conditions in let rows : List Equation → List (List ℕ) = equation_rows m in
+pub module_written : (m : ModuleValue) (a o1 o2 o3 o4 o5 o6 o7 o8 o9 : List ℕ) → let n : Netlist =
+    m.netlist in let count : ℕ = length n.conditions in let rows : List Equation → List (List ℕ) = equation_rows m in
     o1 ≡ a ++ text_of (port_lines m) → o2 ≡ o1 ++ text_of (wire_lines (wire_texts m (inner_wires n))) → o3 ≡ o2 ++ text_of (rows (gate_equations n.gates))
     → o4 ≡ o3 ++ text_of (rows (each_below (λ v. condition_equation v (condition_of n v) ∷ []) count)) → o5 ≡ o4 ++ text_of (rows (each_below (λ u. arc_equations_from n u count) count))
-    → o6 ≡ o5 ++ text_of (rows (each_below (λ v. request_equation n v ∷ []) count)) → o7 ≡ o6 ++ text_of (rows (done_equation count ∷ [])) → o8 ≡ o7 ++ text_of (rows (idle_equation count ∷ [])) → o9 ≡ o8 ++ codes "endmodule\n"
+    → o6 ≡ o5 ++ text_of (rows (each_below (λ v. request_equation n v ∷ []) count)) →
+    o7 ≡ o6 ++ text_of (rows (done_equation count ∷ [])) → o8 ≡ o7 ++ text_of (rows (idle_equation count ∷ [])) →
+    o9 ≡ o8 ++ codes "endmodule\n"
     → o9 ≡ a ++ text_of (module_lines m)
 module_written m a o1 o2 o3 o4 o5 o6 o7 o8 o9 e1 e2 e3 e4 e5 e6 e7 e8 e9 =
     let n : Netlist = m.netlist in
@@ -395,6 +444,11 @@ module_written m a o1 o2 o3 o4 o5 o6 o7 o8 o9 e1 e2 e3 e4 e5 e6 e7 e8 e9 =
     let es4 : List Equation = each_below (λ v. request_equation n v ∷ []) count in
     let add : List (List ℕ) → List ℕ → List ℕ = λ ls x. x ++ text_of ls in
     e9
-    ∙ ap (add (codes "endmodule" ∷ [])) (e8 ∙ ap (add (rows (idle_equation count ∷ []))) (e7 ∙ ap (add (rows (done_equation count ∷ []))) (e6 ∙ ap (add (rows es4)) (e5 ∙ ap (add (rows es3)) (e4 ∙ ap (add (rows es2)) (e3 ∙ ap (add (rows (gate_equations n.gates))) (e2 ∙ ap (add wires) e1)))))))
-    ∙ parts_written (port_lines m) wires (rows (gate_equations n.gates)) (rows es2) (rows es3) (rows es4) (equation_row n.gates.inputs m.names (done_equation count)) (equation_row n.gates.inputs m.names (idle_equation count)) (codes "endmodule") a
+    ∙ ap (add (codes "endmodule" ∷ [])) (e8 ∙ ap (add (rows (idle_equation count ∷ []))) (e7
+    ∙ ap (add (rows (done_equation count ∷ []))) (e6
+    ∙ ap (add (rows es4)) (e5 ∙ ap (add (rows es3)) (e4
+    ∙ ap (add (rows es2)) (e3 ∙ ap (add (rows (gate_equations n.gates))) (e2 ∙ ap (add wires) e1)))))))
+    ∙ parts_written (port_lines m) wires (rows (gate_equations n.gates)) (rows es2) (rows es3) (rows es4)
+    (equation_row n.gates.inputs m.names (done_equation count))
+    (equation_row n.gates.inputs m.names (idle_equation count)) (codes "endmodule") a
     ∙ ap (λ ls. a ++ text_of (port_lines m ++ (wires ++ (ls ++ codes "endmodule" ∷ [])))) (sym (rows_split m (gate_equations n.gates) es2 es3 es4 (done_equation count ∷ idle_equation count ∷ [])))

@@ -59,6 +59,7 @@ gate_equation inputs g gate = record {
   comment = comment_of (table_formula gate.table (Signal gate.j) (Signal gate.k)) (Signal gate.j) (Signal gate.k);
 }
 
+-- the equations of all gates, in their order
 abbrev pub gate_equations : GateList → List Equation
 gate_equations list = each_below (λ g. gate_equation list.inputs g (gate_at list g) ∷ []) (length list.gates)
 
@@ -68,6 +69,7 @@ ref_formula (references.Const b) = Bit b
 ref_formula (references.Signal n false) = Read (Signal n)
 ref_formula (references.Signal n true) = Not (Read (Signal n))
 
+-- the condition of an operation
 abbrev pub condition_equation : ℕ → Ref → Equation
 condition_equation v ref = record { wire = Condition v; formula = ref_formula ref; comment = None }
 
@@ -79,7 +81,8 @@ arc_equation u v (Some ref) = record { wire = ArcCondition u v; formula = ref_fo
 -- a formula and each of these for the numbers below n that pass
 abbrev pub and_each : Formula → (ℕ → Bool) → (ℕ → Formula) → ℕ → Formula
 and_each first passes each zero = first
-and_each first passes each (suc n) = if passes n then And (and_each first passes each n) (each n) else and_each first passes each n
+and_each first passes each (suc n) =
+    if passes n then And (and_each first passes each n) (each n) else and_each first passes each n
 
 -- u is acknowledged, or its condition is 0
 abbrev pub through_formula : ℕ → Formula
@@ -89,21 +92,28 @@ through_formula u = Or (Read (Acknowledge u)) (Not (Read (Condition u)))
 abbrev pub arc_formula : ℕ → ℕ → Formula
 arc_formula v u = Or (through_formula u) (Not (Read (ArcCondition u v)))
 
+-- go, the own condition, and for each operation that v waits for what lets it through
 abbrev pub request_formula : Netlist → ℕ → Formula
-request_formula n v = and_each (And (Read Go) (Read (Condition v))) (set.contains (waits_of n v)) (arc_formula v) (length n.conditions)
+request_formula n v =
+    and_each (And (Read Go) (Read (Condition v))) (set.contains (waits_of n v)) (arc_formula v) (length n.conditions)
 
+-- go, and each operation is acknowledged or has the condition 0
 abbrev pub done_formula : ℕ → Formula
 done_formula count = and_each (Read Go) (λ _. true) through_formula count
 
+-- no go, and no operation is acknowledged
 abbrev pub idle_formula : ℕ → Formula
 idle_formula count = and_each (Not (Read Go)) (λ _. true) (λ v. Not (Read (Acknowledge v))) count
 
+-- the request of an operation
 abbrev pub request_equation : Netlist → ℕ → Equation
 request_equation n v = record { wire = Request v; formula = request_formula n v; comment = None }
 
+-- the wire that says that all are done
 abbrev pub done_equation : ℕ → Equation
 done_equation count = record { wire = Done; formula = done_formula count; comment = None }
 
+-- the wire that says that nothing goes on
 abbrev pub idle_equation : ℕ → Equation
 idle_equation count = record { wire = Idle; formula = idle_formula count; comment = None }
 

@@ -1,10 +1,11 @@
--- What a text of Verilog is read as: the tokens, the grammar of expressions on single bits, and assignments (IEEE 1364-2005, clauses 3 and 5.1, A.6.1 and A.8).
+-- What a text of Verilog is read as: the tokens, the grammar of expressions on single bits, and assignments (IEEE
+-- 1364-2005, clauses 3 and 5.1, A.6.1 and A.8).
 use Rattle.std.specs.Prelude.{◌≡◌, ℕ, Bool, true, false, not, ◌&&◌, ◌||◌, ◌==◌, List, [], ◌∷◌, ◌++◌, codes}
 use Rattle.std.specs.List.{list_all}
 use Rattle.line_text.specs.Words.{begins_name, continues_name}
 use Rattle.netlist_verilog.specs.Module.{ModuleValue, IsWireOf, called}
 use Rattle.netlist_verilog.specs.Wires.{Wire}
-use Rattle.netlist_verilog.specs.Keywords.{is_keyword}
+use Rattle.netlist_verilog.specs.Keywords.{is_verilog_keyword}
 use Rattle.netlist_verilog.specs.Formulas.{Formula, Bit, Read, Not, And, Xor, Or}
 
 -- the operators on two bits
@@ -27,6 +28,7 @@ pub data Token : Type 0 where
   equals : Token
   semicolon : Token
 
+-- how a token is written
 abbrev pub token_text : ModuleValue → Token → List ℕ
 token_text m (name w) = called m w
 token_text m (bit false) = codes "1'b0"
@@ -48,7 +50,7 @@ continues_identifier b = continues_name b || (b == 36)
 -- a letter or `_` and then these, and no keyword
 abbrev pub is_identifier : List ℕ → Bool
 is_identifier [] = false
-is_identifier (b ∷ bs) = begins_name b && (list_all continues_identifier bs && not (is_keyword (b ∷ bs)))
+is_identifier (b ∷ bs) = begins_name b && (list_all continues_identifier bs && not (is_verilog_keyword (b ∷ bs)))
 
 -- a name is that of a wire of the module, and an identifier
 abbrev pub IsTokenOf : ModuleValue → Token → Type 0
@@ -62,7 +64,8 @@ IsTokenOf m assign = Unit {0}
 IsTokenOf m equals = Unit {0}
 IsTokenOf m semicolon = Unit {0}
 
--- a next byte that would make a longer token of it: a word or a number that goes on, or `~&`, `~^`, `~|`, `&&`, `^~`, `||`, `(*`, `==`
+-- a next byte that would make a longer token of it: a word or a number that goes on, or `~&`, `~^`, `~|`, `&&`, `^~`,
+-- `||`, `(*`, `==`
 abbrev pub lengthens : Token → ℕ → Bool
 lengthens (name w) b = continues_identifier b
 lengthens (bit v) b = continues_identifier b || (b == 63)
@@ -96,11 +99,13 @@ pub data Gap : Type 0 where
   blank : ℕ → Gap → Gap
   comment : List ℕ → Gap → Gap
 
+-- how a gap is written
 abbrev pub gap_text : Gap → List ℕ
 gap_text nothing = []
 gap_text (blank b g) = b ∷ gap_text g
 gap_text (comment bytes g) = codes "/*" ++ (bytes ++ (codes "*/" ++ gap_text g))
 
+-- its blanks are blanks, and its comments end where they say
 abbrev pub IsGap : Gap → Type 0
 IsGap nothing = Unit {0}
 IsGap (blank b g) = (is_blank b ≡ true) × IsGap g
@@ -143,6 +148,7 @@ pub data Expression : Level → Type 0 where
   single : (o : Operator) → Expression (member o) → Expression (row o)
   joined : (o : Operator) → Expression (row o) → Expression (member o) → Expression (row o)
 
+-- the tokens of an expression, from left to right
 abbrev pub tokens : {l : Level} → Expression l → List Token
 tokens (named w) = name w ∷ []
 tokens (constant b) = bit b ∷ []
@@ -152,11 +158,13 @@ tokens (negated e) = tilde ∷ tokens e
 tokens (single o e) = tokens e
 tokens (joined o e g) = tokens e ++ operator o ∷ tokens g
 
+-- two formulas joined by an operator
 abbrev pub join : Operator → Formula → Formula → Formula
 join and f g = And f g
 join xor f g = Xor f g
 join or f g = Or f g
 
+-- the formula that an expression stands for
 abbrev pub formula : {l : Level} → Expression l → Formula
 formula (named w) = Read w
 formula (constant b) = Bit b
@@ -172,4 +180,6 @@ IsReadAs m text f = (e : Expression (row or)) × Spells m (tokens e) text × (fo
 
 -- the text is an assignment to this wire, and what it assigns is this formula
 abbrev pub IsAssignment : ModuleValue → List ℕ → Wire → Formula → Type 0
-IsAssignment m text w f = (e : Expression (row or)) × Spells m (assign ∷ name w ∷ equals ∷ (tokens e ++ semicolon ∷ [])) text × (formula e ≡ f)
+IsAssignment m text w f =
+    (e : Expression (row or)) × Spells m (assign ∷ name w ∷ equals ∷ (tokens e ++ semicolon ∷ [])) text ×
+    (formula e ≡ f)

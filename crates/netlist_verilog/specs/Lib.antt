@@ -1,6 +1,7 @@
 pub mod Module
 pub mod Stored
 pub mod Wires
+pub mod Writes
 pub mod Formulas
 pub mod Equations
 pub mod Rows

@@ -2,6 +2,7 @@
 use Rattle.std.specs.Prelude.{◌≡◌, ℕ, ◌<◌, ◌≤◌, IsTrue, List, length}
 use Rattle.std.specs.List.{All}
 use Rattle.cpog_base.specs.Names.{AreDistinct}
+use Rattle.cpog_base.specs.declared.limits.TheConstants.{BIT_LIMIT}
 use Rattle.cpog_defs.specs.Gates.{IsGateList, signal_count}
 use Rattle.handshake_eqs.specs.Netlists.{Netlist, IsNetlist}
 use Rattle.line_text.specs.Words.{is_free_name}
@@ -16,14 +17,18 @@ pub record ModuleValue : Type 0 where
 abbrev pub AreNames : List (List ℕ) → Type 0
 AreNames names = All (λ name. IsTrue (is_free_name name)) names
 
--- a name for each operation, no name twice, 1 to 8 inputs, fewer than 262144 gates, and a netlist over these
+-- a module has fewer gates than this: 2 to the power 18, which is more than any netlist of a report has
+abbrev pub module_gate_limit : ℕ
+module_gate_limit = 262144
+
+-- a name for each operation, no name twice, 1 to 8 inputs, few gates, and a netlist over these
 pub record IsModule (m : ModuleValue) : Type 0 where
   pub names : AreNames m.names
   pub distinct : AreDistinct m.names
   pub one_name_each : length m.names ≡ length m.netlist.conditions
   pub some_input : 1 ≤ m.netlist.gates.inputs
-  pub few_inputs : m.netlist.gates.inputs ≤ 8
-  pub few_gates : length m.netlist.gates.gates < 262144
+  pub few_inputs : m.netlist.gates.inputs ≤ BIT_LIMIT
+  pub few_gates : length m.netlist.gates.gates < module_gate_limit
   pub gates : IsGateList m.netlist.gates
   pub netlist : IsNetlist m.netlist
 

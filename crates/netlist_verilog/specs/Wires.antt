@@ -2,7 +2,8 @@
 use Rattle.std.specs.Prelude.{ℕ, ◌-◌, nat_lt, if◌then◌else◌, List, [], ◌++◌, slice_index_or, codes}
 use Rattle.std.specs.Fmt.{decimal}
 
--- the signals (the inputs of the gates and then the gates), the wires of the handshake, and the conditions of operations and of arcs
+-- the signals (the inputs of the gates and then the gates), the wires of the handshake, and the conditions of
+-- operations and of arcs
 pub data Wire : Type 0 where
   Signal : ℕ → Wire
   Go : Wire
@@ -21,6 +22,7 @@ signal_text inputs n = if nat_lt n inputs then codes "x" ++ decimal n else codes
 abbrev pub name_of : List (List ℕ) → ℕ → List ℕ
 name_of names v = slice_index_or names v []
 
+-- how a wire is called, over so many inputs and with these names of operations
 abbrev pub wire_text : ℕ → List (List ℕ) → Wire → List ℕ
 wire_text inputs names (Signal n) = signal_text inputs n
 wire_text inputs names Go = codes "go"

@@ -1,11 +1,12 @@
 //! The lines that declare a module's wires.
-ghost use Rattle.std.specs.Prelude.{◌≡◌, ◌+◌, ◌^◌, ◌<◌, ◌++◌, ◌∷◌, [], true, false, length, OnOk, string_bytes};
+ghost use Rattle.std.specs.Prelude.{◌≡◌, ◌+◌, ◌^◌, ◌<◌, ◌++◌, ◌∷◌, [], true, false, length, OnOk};
 ghost use Rattle.cpog_defs.specs.Orders.{each_below};
 ghost use Rattle.handshake_eqs.specs.Netlists.{wire_of};
 ghost use Rattle.line_text.specs.Lines.{text_of};
 ghost use Rattle.netlist_verilog.specs.Wires.{signal_text, name_of};
 ghost use Rattle.netlist_verilog.specs.Rows as rows;
 ghost use Rattle.netlist_verilog.specs.Rows.{joined, wire_texts, input_wires, output_wires, arc_wire, arc_wires_from, arc_wires, inner_wires, wire_lines, port_lines};
+ghost use Rattle.netlist_verilog.specs.Writes.{Writes};
 
 use crate::Module;
 use crate::signal_name::SignalName;
@@ -15,7 +16,7 @@ use std::fmt::Write;
 
 /// Writes the header and the lines of inputs and outputs.
 pub(crate) fn put_ports(out: &mut String, design: &Module) -> Result<(), AllocError>
-    ensures { OnOk result (string_bytes out.new ≡ string_bytes out.old ++ text_of (port_lines design.now)) }
+    ensures { OnOk result (Writes out.old out.new (text_of (port_lines design.now))) }
 {
     out.push_str("module cpog(")?;
     put_inputs(out, design)?;
@@ -30,7 +31,7 @@ pub(crate) fn put_ports(out: &mut String, design: &Module) -> Result<(), AllocEr
 }
 
 fn put_inputs(out: &mut String, design: &Module) -> Result<(), AllocError>
-    ensures { OnOk result (string_bytes out.new ≡ string_bytes out.old ++ joined true (wire_texts design.now (input_wires design.now.netlist))) }
+    ensures { OnOk result (Writes out.old out.new (joined true (wire_texts design.now (input_wires design.now.netlist)))) }
 {
     let bits = design.netlist().bits();
     put_signals(out, bits, 0, u32::from(bits))?;
@@ -40,7 +41,7 @@ fn put_inputs(out: &mut String, design: &Module) -> Result<(), AllocError>
 }
 
 fn put_outputs(out: &mut String, design: &Module) -> Result<(), AllocError>
-    ensures { OnOk result (string_bytes out.new ≡ string_bytes out.old ++ joined true (wire_texts design.now (output_wires design.now.netlist))) }
+    ensures { OnOk result (Writes out.old out.new (joined true (wire_texts design.now (output_wires design.now.netlist)))) }
 {
     let names = design.names();
     put_names(out, true, "r_", names)?;
@@ -51,7 +52,7 @@ fn put_outputs(out: &mut String, design: &Module) -> Result<(), AllocError>
 
 /// Writes the line of the wires that are no ports, where there is one.
 pub(crate) fn put_wires(out: &mut String, design: &Module) -> Result<(), AllocError>
-    ensures { OnOk result (string_bytes out.new ≡ string_bytes out.old ++ text_of (wire_lines (wire_texts design.now (inner_wires design.now.netlist)))) }
+    ensures { OnOk result (Writes out.old out.new (text_of (wire_lines (wire_texts design.now (inner_wires design.now.netlist))))) }
 {
     let names = design.names().len();
     let netlist = design.netlist();
@@ -64,7 +65,7 @@ pub(crate) fn put_wires(out: &mut String, design: &Module) -> Result<(), AllocEr
 
 fn put_wire_line(out: &mut String, design: &Module) -> Result<(), AllocError>
     requires { 0 < length design.now.netlist.gates.gates + length design.now.netlist.conditions }
-    ensures { OnOk result (string_bytes out.new ≡ string_bytes out.old ++ text_of (wire_lines (wire_texts design.now (inner_wires design.now.netlist)))) }
+    ensures { OnOk result (Writes out.old out.new (text_of (wire_lines (wire_texts design.now (inner_wires design.now.netlist))))) }
 {
     let bits = design.netlist().bits();
     let gates = design.netlist().gates().len();
@@ -80,7 +81,7 @@ fn put_wire_line(out: &mut String, design: &Module) -> Result<(), AllocError>
 /// Writes so many signals from this one on, with commas between them.
 fn put_signals(out: &mut String, inputs: u8, start: u32, count: u32) -> Result<(), AllocError>
     requires { start + count < 2 ^ 32 }
-    ensures { OnOk result (string_bytes out.new ≡ string_bytes out.old ++ joined true (each_below (λ k. signal_text inputs (start + k) ∷ []) count)) }
+    ensures { OnOk result (Writes out.old out.new (joined true (each_below (λ k. signal_text inputs (start + k) ∷ []) count))) }
 {
     let mut first = true;
     'signals: for k in 0..count {
@@ -96,7 +97,7 @@ fn put_signals(out: &mut String, inputs: u8, start: u32, count: u32) -> Result<(
 
 /// Writes the wires that begin so, one for each name, with commas between them, and before them where something is.
 fn put_names(out: &mut String, first: bool, prefix: &str, names: &Names) -> Result<(), AllocError>
-    ensures { OnOk result (string_bytes out.new ≡ string_bytes out.old ++ joined first (each_below (λ v. (prefix.now ++ name_of names.now v) ∷ []) (length names.now))) }
+    ensures { OnOk result (Writes out.old out.new (joined first (each_below (λ v. (prefix.now ++ name_of names.now v) ∷ []) (length names.now)))) }
 {
     let mut first_left = first;
     'names: for v in 0..names.len() {
@@ -116,7 +117,7 @@ fn separator(first: bool) -> &'static str
 
 /// Writes the wires of the arcs, each behind a comma.
 fn put_arc_wires(out: &mut String, design: &Module) -> Result<(), AllocError>
-    ensures { OnOk result (string_bytes out.new ≡ string_bytes out.old ++ joined false (wire_texts design.now (arc_wires design.now.netlist))) }
+    ensures { OnOk result (Writes out.old out.new (joined false (wire_texts design.now (arc_wires design.now.netlist)))) }
 {
     'firsts: for u in 0..design.netlist().count() {
         put_arc_wires_from(out, design, OpId(u))?;
@@ -126,7 +127,7 @@ fn put_arc_wires(out: &mut String, design: &Module) -> Result<(), AllocError>
 
 fn put_arc_wires_from(out: &mut String, design: &Module, u: OpId) -> Result<(), AllocError>
     requires { u.0 < length design.now.netlist.conditions }
-    ensures { OnOk result (string_bytes out.new ≡ string_bytes out.old ++ joined false (wire_texts design.now (arc_wires_from design.now.netlist u.0 (length design.now.netlist.conditions)))) }
+    ensures { OnOk result (Writes out.old out.new (joined false (wire_texts design.now (arc_wires_from design.now.netlist u.0 (length design.now.netlist.conditions))))) }
 {
     'seconds: for v in 0..design.netlist().count() {
         put_arc_wire(out, design, u, OpId(v))?;
@@ -137,7 +138,7 @@ fn put_arc_wires_from(out: &mut String, design: &Module, u: OpId) -> Result<(), 
 fn put_arc_wire(out: &mut String, design: &Module, u: OpId, v: OpId) -> Result<(), AllocError>
     requires first { u.0 < length design.now.netlist.conditions }
     requires second { v.0 < length design.now.netlist.conditions }
-    ensures { OnOk result (string_bytes out.new ≡ string_bytes out.old ++ joined false (wire_texts design.now (arc_wire u.0 v.0 (wire_of design.now.netlist u.0 v.0)))) }
+    ensures { OnOk result (Writes out.old out.new (joined false (wire_texts design.now (arc_wire u.0 v.0 (wire_of design.now.netlist u.0 v.0))))) }
 {
     match design.netlist().arc_wire(u, v) {
         Some(_) => write!(out, ", e{}_{}", u.0, v.0),

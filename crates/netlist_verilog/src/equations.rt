@@ -1,5 +1,5 @@
 //! The lines of a module's equations.
-ghost use Rattle.std.specs.Prelude.{◌≡◌, ◌<◌, ◌++◌, ◌∷◌, [], true, length, Some, OnOk, string_bytes};
+ghost use Rattle.std.specs.Prelude.{◌<◌, ◌∷◌, [], true, length, Some, OnOk};
 ghost use Rattle.std.specs.FinSet as set;
 ghost use Rattle.cpog_defs.specs.Orders.{each_below};
 ghost use Rattle.handshake_eqs.specs.Netlists.{condition_of, wire_of, waits_of};
@@ -8,6 +8,7 @@ ghost use Rattle.netlist_verilog.specs.Wires.{Acknowledge};
 ghost use Rattle.netlist_verilog.specs.Formulas.{Not, Read, formula_text};
 ghost use Rattle.netlist_verilog.specs.Equations.{gate_at, gate_equation, gate_equations, ref_formula, condition_equation, arc_equation, arc_equations_from, arc_formula, through_formula, request_equation, done_equation, idle_equation};
 ghost use Rattle.netlist_verilog.specs.Rows.{function_text, and_text, equation_rows};
+ghost use Rattle.netlist_verilog.specs.Writes.{Writes};
 
 use crate::Module;
 use crate::signal_name::SignalName;
@@ -17,7 +18,7 @@ use std::alloc::AllocError;
 use std::fmt::Write;
 
 pub(crate) fn put_gates(out: &mut String, design: &Module) -> Result<(), AllocError>
-    ensures { OnOk result (string_bytes out.new ≡ string_bytes out.old ++ text_of (equation_rows design.now (gate_equations design.now.netlist.gates))) }
+    ensures { OnOk result (Writes out.old out.new (text_of (equation_rows design.now (gate_equations design.now.netlist.gates)))) }
 {
     'gates: for g in 0..design.netlist().gates().len() {
         put_gate(out, design, g)?;
@@ -27,7 +28,7 @@ pub(crate) fn put_gates(out: &mut String, design: &Module) -> Result<(), AllocEr
 
 fn put_gate(out: &mut String, design: &Module, g: u32) -> Result<(), AllocError>
     requires { g < length design.now.netlist.gates.gates }
-    ensures { OnOk result (string_bytes out.new ≡ string_bytes out.old ++ text_of (equation_rows design.now (gate_equation design.now.netlist.gates.inputs g (gate_at design.now.netlist.gates g) ∷ []))) }
+    ensures { OnOk result (Writes out.old out.new (text_of (equation_rows design.now (gate_equation design.now.netlist.gates.inputs g (gate_at design.now.netlist.gates g) ∷ [])))) }
 {
     let inputs = design.netlist().bits();
     let gates = design.netlist().gates().gates();
@@ -45,7 +46,7 @@ fn put_gate(out: &mut String, design: &Module, g: u32) -> Result<(), AllocError>
 /// Writes the function of a gate by its table, and a comment with both signals where it doesn't read both.
 fn put_function(out: &mut String, design: &Module, gate: Gate) -> Result<(), AllocError>
     requires { gate.table < 16 }
-    ensures { OnOk result (string_bytes out.new ≡ string_bytes out.old ++ function_text design.now gate) }
+    ensures { OnOk result (Writes out.old out.new (function_text design.now gate)) }
 {
     let inputs = design.netlist().bits();
     let p = SignalName {
@@ -77,7 +78,7 @@ fn put_function(out: &mut String, design: &Module, gate: Gate) -> Result<(), All
 }
 
 pub(crate) fn put_conditions(out: &mut String, design: &Module) -> Result<(), AllocError>
-    ensures { OnOk result (string_bytes out.new ≡ string_bytes out.old ++ text_of (equation_rows design.now (each_below (λ v. condition_equation v (condition_of design.now.netlist v) ∷ []) (length design.now.netlist.conditions)))) }
+    ensures { OnOk result (Writes out.old out.new (text_of (equation_rows design.now (each_below (λ v. condition_equation v (condition_of design.now.netlist v) ∷ []) (length design.now.netlist.conditions))))) }
 {
     'conditions: for v in 0..design.netlist().count() {
         put_condition(out, design, OpId(v))?;
@@ -87,7 +88,7 @@ pub(crate) fn put_conditions(out: &mut String, design: &Module) -> Result<(), Al
 
 fn put_condition(out: &mut String, design: &Module, v: OpId) -> Result<(), AllocError>
     requires { v.0 < length design.now.netlist.conditions }
-    ensures { OnOk result (string_bytes out.new ≡ string_bytes out.old ++ text_of (equation_rows design.now (condition_equation v.0 (condition_of design.now.netlist v.0) ∷ []))) }
+    ensures { OnOk result (Writes out.old out.new (text_of (equation_rows design.now (condition_equation v.0 (condition_of design.now.netlist v.0) ∷ [])))) }
 {
     let name = design.names().get(u32::from(v.0));
     write!(out, "  assign c_{name} = ")?;
@@ -98,7 +99,7 @@ fn put_condition(out: &mut String, design: &Module, v: OpId) -> Result<(), Alloc
 
 /// Writes a constant, a signal or its complement.
 fn put_ref(out: &mut String, design: &Module, r: Ref) -> Result<(), AllocError>
-    ensures { OnOk result (string_bytes out.new ≡ string_bytes out.old ++ formula_text design.now.netlist.gates.inputs design.now.names (ref_formula r)) }
+    ensures { OnOk result (Writes out.old out.new (formula_text design.now.netlist.gates.inputs design.now.names (ref_formula r))) }
 {
     let inputs = design.netlist().bits();
     match r {
@@ -122,7 +123,7 @@ fn put_ref(out: &mut String, design: &Module, r: Ref) -> Result<(), AllocError>
 }
 
 pub(crate) fn put_arcs(out: &mut String, design: &Module) -> Result<(), AllocError>
-    ensures { OnOk result (string_bytes out.new ≡ string_bytes out.old ++ text_of (equation_rows design.now (each_below (λ u. arc_equations_from design.now.netlist u (length design.now.netlist.conditions)) (length design.now.netlist.conditions)))) }
+    ensures { OnOk result (Writes out.old out.new (text_of (equation_rows design.now (each_below (λ u. arc_equations_from design.now.netlist u (length design.now.netlist.conditions)) (length design.now.netlist.conditions))))) }
 {
     'firsts: for u in 0..design.netlist().count() {
         put_arcs_from(out, design, OpId(u))?;
@@ -132,7 +133,7 @@ pub(crate) fn put_arcs(out: &mut String, design: &Module) -> Result<(), AllocErr
 
 fn put_arcs_from(out: &mut String, design: &Module, u: OpId) -> Result<(), AllocError>
     requires { u.0 < length design.now.netlist.conditions }
-    ensures { OnOk result (string_bytes out.new ≡ string_bytes out.old ++ text_of (equation_rows design.now (arc_equations_from design.now.netlist u.0 (length design.now.netlist.conditions)))) }
+    ensures { OnOk result (Writes out.old out.new (text_of (equation_rows design.now (arc_equations_from design.now.netlist u.0 (length design.now.netlist.conditions))))) }
 {
     'seconds: for v in 0..design.netlist().count() {
         put_arc(out, design, u, OpId(v))?;
@@ -143,7 +144,7 @@ fn put_arcs_from(out: &mut String, design: &Module, u: OpId) -> Result<(), Alloc
 fn put_arc(out: &mut String, design: &Module, u: OpId, v: OpId) -> Result<(), AllocError>
     requires first { u.0 < length design.now.netlist.conditions }
     requires second { v.0 < length design.now.netlist.conditions }
-    ensures { OnOk result (string_bytes out.new ≡ string_bytes out.old ++ text_of (equation_rows design.now (arc_equation u.0 v.0 (wire_of design.now.netlist u.0 v.0)))) }
+    ensures { OnOk result (Writes out.old out.new (text_of (equation_rows design.now (arc_equation u.0 v.0 (wire_of design.now.netlist u.0 v.0))))) }
 {
     match design.netlist().arc_wire(u, v) {
         Some(r) => put_arc_condition(out, design, u, v, r),
@@ -158,7 +159,7 @@ fn put_arc_condition(
     v: OpId,
     r: Ref,
 ) -> Result<(), AllocError>
-    ensures { OnOk result (string_bytes out.new ≡ string_bytes out.old ++ text_of (equation_rows design.now (arc_equation u.0 v.0 (Some r)))) }
+    ensures { OnOk result (Writes out.old out.new (text_of (equation_rows design.now (arc_equation u.0 v.0 (Some r))))) }
 {
     write!(out, "  assign e{}_{} = ", u.0, v.0)?;
     put_ref(out, design, r)?;
@@ -166,7 +167,7 @@ fn put_arc_condition(
 }
 
 pub(crate) fn put_requests(out: &mut String, design: &Module) -> Result<(), AllocError>
-    ensures { OnOk result (string_bytes out.new ≡ string_bytes out.old ++ text_of (equation_rows design.now (each_below (λ v. request_equation design.now.netlist v ∷ []) (length design.now.netlist.conditions)))) }
+    ensures { OnOk result (Writes out.old out.new (text_of (equation_rows design.now (each_below (λ v. request_equation design.now.netlist v ∷ []) (length design.now.netlist.conditions))))) }
 {
     'requests: for v in 0..design.netlist().count() {
         put_request(out, design, OpId(v))?;
@@ -176,7 +177,7 @@ pub(crate) fn put_requests(out: &mut String, design: &Module) -> Result<(), Allo
 
 fn put_request(out: &mut String, design: &Module, v: OpId) -> Result<(), AllocError>
     requires { v.0 < length design.now.netlist.conditions }
-    ensures { OnOk result (string_bytes out.new ≡ string_bytes out.old ++ text_of (equation_rows design.now (request_equation design.now.netlist v.0 ∷ []))) }
+    ensures { OnOk result (Writes out.old out.new (text_of (equation_rows design.now (request_equation design.now.netlist v.0 ∷ [])))) }
 {
     let name = design.names().get(u32::from(v.0));
     write!(out, "  assign r_{name} = go & c_{name}")?;
@@ -188,7 +189,7 @@ fn put_request(out: &mut String, design: &Module, v: OpId) -> Result<(), AllocEr
 /// Writes what the operation waits for, each behind `&`.
 fn put_waits(out: &mut String, design: &Module, v: OpId) -> Result<(), AllocError>
     requires { v.0 < length design.now.netlist.conditions }
-    ensures { OnOk result (string_bytes out.new ≡ string_bytes out.old ++ each_below (λ u. and_text design.now (set.contains (waits_of design.now.netlist v.0) u) (arc_formula v.0 u)) (length design.now.netlist.conditions)) }
+    ensures { OnOk result (Writes out.old out.new (each_below (λ u. and_text design.now (set.contains (waits_of design.now.netlist v.0) u) (arc_formula v.0 u)) (length design.now.netlist.conditions))) }
 {
     'waits: for u in 0..design.netlist().count() {
         put_wait(out, design, OpId(u), v)?;
@@ -199,7 +200,7 @@ fn put_waits(out: &mut String, design: &Module, v: OpId) -> Result<(), AllocErro
 fn put_wait(out: &mut String, design: &Module, u: OpId, v: OpId) -> Result<(), AllocError>
     requires first { u.0 < length design.now.netlist.conditions }
     requires second { v.0 < length design.now.netlist.conditions }
-    ensures { OnOk result (string_bytes out.new ≡ string_bytes out.old ++ and_text design.now (set.contains (waits_of design.now.netlist v.0) u.0) (arc_formula v.0 u.0)) }
+    ensures { OnOk result (Writes out.old out.new (and_text design.now (set.contains (waits_of design.now.netlist v.0) u.0) (arc_formula v.0 u.0))) }
 {
     let name = design.names().get(u32::from(u.0));
     if design.netlist().waits(v).contains(u) {
@@ -209,7 +210,7 @@ fn put_wait(out: &mut String, design: &Module, u: OpId, v: OpId) -> Result<(), A
 }
 
 pub(crate) fn put_done(out: &mut String, design: &Module) -> Result<(), AllocError>
-    ensures { OnOk result (string_bytes out.new ≡ string_bytes out.old ++ text_of (equation_rows design.now (done_equation (length design.now.netlist.conditions) ∷ []))) }
+    ensures { OnOk result (Writes out.old out.new (text_of (equation_rows design.now (done_equation (length design.now.netlist.conditions) ∷ [])))) }
 {
     out.push_str("  assign done = go")?;
     put_each_through(out, design)?;
@@ -219,7 +220,7 @@ pub(crate) fn put_done(out: &mut String, design: &Module) -> Result<(), AllocErr
 
 /// Writes for each operation that it is acknowledged or has the condition 0, behind `&`.
 fn put_each_through(out: &mut String, design: &Module) -> Result<(), AllocError>
-    ensures { OnOk result (string_bytes out.new ≡ string_bytes out.old ++ each_below (λ v. and_text design.now true (through_formula v)) (length design.now.netlist.conditions)) }
+    ensures { OnOk result (Writes out.old out.new (each_below (λ v. and_text design.now true (through_formula v)) (length design.now.netlist.conditions))) }
 {
     let names = design.names();
     'operations: for v in 0..names.len() {
@@ -230,7 +231,7 @@ fn put_each_through(out: &mut String, design: &Module) -> Result<(), AllocError>
 }
 
 pub(crate) fn put_idle(out: &mut String, design: &Module) -> Result<(), AllocError>
-    ensures { OnOk result (string_bytes out.new ≡ string_bytes out.old ++ text_of (equation_rows design.now (idle_equation (length design.now.netlist.conditions) ∷ []))) }
+    ensures { OnOk result (Writes out.old out.new (text_of (equation_rows design.now (idle_equation (length design.now.netlist.conditions) ∷ [])))) }
 {
     out.push_str("  assign idle = ~go")?;
     put_each_unacknowledged(out, design)?;
@@ -240,7 +241,7 @@ pub(crate) fn put_idle(out: &mut String, design: &Module) -> Result<(), AllocErr
 
 /// Writes for each operation that it isn't acknowledged, behind `&`.
 fn put_each_unacknowledged(out: &mut String, design: &Module) -> Result<(), AllocError>
-    ensures { OnOk result (string_bytes out.new ≡ string_bytes out.old ++ each_below (λ v. and_text design.now true (Not (Read (Acknowledge v)))) (length design.now.netlist.conditions)) }
+    ensures { OnOk result (Writes out.old out.new (each_below (λ v. and_text design.now true (Not (Read (Acknowledge v)))) (length design.now.netlist.conditions))) }
 {
     let names = design.names();
     'operations: for v in 0..names.len() {

@@ -1,7 +1,8 @@
 //! The text of a module, line by line into one buffer.
-ghost use Rattle.std.specs.Prelude.{◌≡◌, ◌++◌, IfOk, string_bytes};
+ghost use Rattle.std.specs.Prelude.{◌≡◌, IfOk};
 ghost use Rattle.line_text.specs.Lines.{text_of};
 ghost use Rattle.netlist_verilog.specs.Rows.{module_lines};
+ghost use Rattle.netlist_verilog.specs.Writes.{Writes};
 
 use crate::Module;
 use crate::declarations::{put_ports, put_wires};
@@ -27,7 +28,7 @@ pub fn write_module(alloc: Global, design: &Module) -> Result<Vec<u8>, Memory>
 ///
 /// `Memory` where none is left.
 pub fn append_module(mut text: String, design: &Module) -> Result<String, Memory>
-    ensures { IfOk result (λ whole. string_bytes whole ≡ string_bytes text ++ text_of (module_lines design.now)) }
+    ensures { IfOk result (λ whole. Writes text whole (text_of (module_lines design.now))) }
 {
     put_ports(&mut text, design)?;
     put_wires(&mut text, design)?;

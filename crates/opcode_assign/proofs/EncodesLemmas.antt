@@ -9,8 +9,8 @@ use Rattle.gate_core.specs.Least.{AreLeast}
 use Rattle.gate_core.specs.Serving.{ReferencesServe}
 use Rattle.opcode_assign.specs.Assignments.{IsAssignmentOn, IsFirstAssignment}
 use Rattle.std.specs.List.{All}
-use Rattle.cpog_defs.specs.Gates.{IsGateList, signal_count}
-use Rattle.cpog_defs.specs.Graphs.{IsGraph}
+use Rattle.cpog_defs.specs.Gates.{GateList, IsGateList, IsRefOver, signal_count}
+use Rattle.cpog_defs.specs.Graphs.{ConditionalGraph, IsGraph}
 use Rattle.gate_core.specs.First.{IsFirstEncoding}
 use Rattle.cpog_merge.specs.Columns.{Columns, AreColumnsOf, AgreesWith}
 use Rattle.cpog_merge.specs.Classes.{Classes, AreClassesOf}
@@ -18,8 +18,10 @@ use Rattle.cpog_merge.specs.ByClass.{IsGraphByClass}
 use Rattle.cpog_merge.proofs.AgreeLemmas.{graph_by_class_lem}
 
 -- codes and gates that serve the classes, and a graph whose conditions are those of the classes, encode the scenarios
-pub by_class_encodes : (count bits : ℕ) (orders : List Order) (patterns : List (List Bit3)) (t : Columns) (list : Classes) (refs : List Ref) (e : Encoding)
-    → ((f : Encoding) → IsEncoding count f → Fits f orders ↔ AgreesWith f t) → t.scenarios ≡ length orders → t.count ≡ count → AreClassesOf t list
+pub by_class_encodes : (count bits : ℕ) (orders : List Order) (patterns : List (List Bit3)) (t : Columns)
+    (list : Classes) (refs : List Ref) (e : Encoding)
+    → ((f : Encoding) → IsEncoding count f → Fits f orders ↔ AgreesWith f t) → t.scenarios ≡ length orders →
+    t.count ≡ count → AreClassesOf t list
     → e.gates.inputs ≡ bits → AreCodes bits (length orders) e.codes → KeepGivenBits patterns e.codes → IsEncoding count e
     → ReferencesServe list.columns e.codes e.gates refs → IsGraphByClass count list refs e.graph
     → Encodes count orders patterns bits e
@@ -33,7 +35,8 @@ by_class_encodes count bits orders patterns t list refs e fits scenarios same ar
 }
 
 -- the least codes, and the assignment on them
-pub first_from : (codes : List ℕ) (count bits : ℕ) (orders : List Order) (patterns : List (List Bit3)) (e : Encoding) → AreLeast patterns (2 ^ bits) codes → IsAssignmentOn codes count orders bits e
+pub first_from : (codes : List ℕ) (count bits : ℕ) (orders : List Order) (patterns : List (List Bit3))
+    (e : Encoding) → AreLeast patterns (2 ^ bits) codes → IsAssignmentOn codes count orders bits e
     → IsFirstAssignment count orders patterns bits e
 first_from codes count bits orders patterns e least on = record {
   codes = subst (AreLeast patterns (2 ^ bits)) (sym on.first.same_codes) least;
@@ -41,14 +44,19 @@ first_from codes count bits orders patterns e least on = record {
 }
 
 -- what is made on the codes is the assignment on them
-pub assignment_on : (codes : List ℕ) (count bits n : ℕ) (orders : List Order) (t : Columns) (list : Classes) (refs : List Ref) (e : Encoding)
-    → AreCodes bits n codes → e.codes ≡ codes → e.gates.inputs ≡ bits → IsGateList e.gates → t.count ≡ count → AreColumnsOf orders t → AreClassesOf t list
+pub assignment_on : (codes : List ℕ) (count bits n : ℕ) (orders : List Order) (t : Columns) (list : Classes)
+    (refs : List Ref) (e : Encoding)
+    → AreCodes bits n codes → e.codes ≡ codes → e.gates.inputs ≡ bits → IsGateList e.gates → t.count ≡ count →
+    AreColumnsOf orders t → AreClassesOf t list
     → IsFirstEncoding codes bits list.columns (record { codes = e.codes; gates = e.gates; refs = refs })
-    → IsGraph list.count (signal_count e.gates) e.graph → IsGraphByClass list.count list refs e.graph → IsAssignmentOn codes count orders bits e
+    → IsGraph list.count (signal_count e.gates) e.graph → IsGraphByClass list.count list refs e.graph →
+    IsAssignmentOn codes count orders bits e
 assignment_on codes count bits n orders t list refs e are same inputs gates count_is columns classes first graph conditions =
     let whole : list.count ≡ count = classes.count ∙ count_is in record {
       encoding = record {
-        codes = subst (All (λ word. word < 2 ^ e.gates.inputs)) (sym same) (subst (λ b. All (λ word. word < 2 ^ b) codes) (sym inputs) are.within);
+        codes =
+            subst (All (λ word. word < 2 ^ e.gates.inputs)) (sym same)
+            (subst (λ b. All (λ word. word < 2 ^ b) codes) (sym inputs) are.within);
         gates = gates;
         graph = subst (λ k. IsGraph k (signal_count e.gates) e.graph) whole graph;
       };
@@ -61,3 +69,22 @@ assignment_on codes count bits n orders t list refs e are same inputs gates coun
       first = first;
       conditions = subst (λ k. IsGraphByClass k list refs e.graph) whole conditions;
     }
+
+-- what is made of classes that are shown as columns, and of references that are shown as a slice, is the assignment
+pub shown_assignment : {count bits n : ℕ} {orders : List Order} {t : Columns} {list : Classes}
+    {columns : List (List Bit3)} {shown refs : List Ref} {codes : List ℕ} (made : List ℕ) (gates : GateList)
+    (graph : ConditionalGraph) → AreCodes bits n codes → made ≡ codes → gates.inputs ≡ bits → IsGateList gates
+    → t.count ≡ count → AreColumnsOf orders t → AreClassesOf t list → columns ≡ list.columns → shown ≡ refs
+    → IsFirstEncoding codes bits columns (record { codes = made; gates = gates; refs = refs })
+    → ReferencesServe columns made gates refs
+    → ((signals : ℕ) → All (IsRefOver signals) shown → IsGraph list.count signals graph)
+    → IsGraphByClass list.count list shown graph
+    → IsAssignmentOn codes count orders bits (record { codes = made; gates = gates; graph = graph })
+shown_assignment {count} {bits} {n} {orders} {t} {list} {columns} {shown} {refs}
+    {codes} made gates graph are same inputs is count_is is_table classes shows refs_are first serves square
+    conditions =
+    assignment_on codes count bits n orders t list refs (record { codes = made; gates = gates; graph = graph })
+    are same inputs is count_is is_table classes
+    (subst (λ cs. IsFirstEncoding codes bits cs (record { codes = made; gates = gates; refs = refs })) shows first)
+    (square (signal_count gates) (subst (All (IsRefOver (signal_count gates))) (sym refs_are) serves.over))
+    (subst (λ rs. IsGraphByClass list.count list rs graph) refs_are conditions)

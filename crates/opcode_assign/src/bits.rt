@@ -9,11 +9,11 @@ pub fn default_bits(scenarios: u8, least: u8) -> u8
     ensures least { IsLeastBits least scenarios result }
     ensures few { result ≤ max 6 least }
 {
-    bits_of(scenarios).max(least)
+    fewest_bits(scenarios).max(least)
 }
 
 /// As few bits as tell so many scenarios apart.
-fn bits_of(scenarios: u8) -> u8
+fn fewest_bits(scenarios: u8) -> u8
     requires { scenarios ≤ SCENARIO_LIMIT }
     ensures least { IsLeastBits 0 scenarios result }
     ensures few { result ≤ 6 }

@@ -1,14 +1,12 @@
 ghost use Rattle.std.specs.Prelude.{◌≡◌, ◌↔◌, ℕ, ◌<◌, ◌≤◌, ◌^◌, List, length, IfOk, IsErrOf};
-ghost use Rattle.std.specs.List.{All};
 ghost use Rattle.cpog_defs.specs.declared.types.Bit3.{Bit3};
 ghost use Rattle.cpog_defs.specs.Codes.{AreCodes, KeepGivenBits};
-ghost use Rattle.cpog_defs.specs.Orders.{IsOrderOf};
 ghost use Rattle.cpog_defs.specs.Encodings.{Encodes};
 ghost use Rattle.gate_core.specs.Least.{IsFirstClash};
 ghost use Rattle.cpog_merge.specs.Columns.{count_of};
-ghost use Rattle.opcode_assign.specs.Assignments.{IsAssignmentOn, IsFirstAssignment};
+ghost use Rattle.opcode_assign.specs.Assignments.{CanBeAssigned, IsAssignmentOn, IsFirstAssignment, most_gates};
 
-use cpog_base::{BIT_LIMIT, Memory, OPERATION_LIMIT, Pattern, SCENARIO_LIMIT, ScenId};
+use cpog_base::{Memory, OPERATION_LIMIT, Pattern, ScenId};
 use cpog_merge::{classes, graph_by_class, merge};
 use gate_core::{CodesFault, Encoding, FirstEncoding, first_encode, least_codes};
 use order_reduce::CoveredOrder;
@@ -39,15 +37,11 @@ pub fn first_assign(
     given: &[Pattern],
     bits: u8,
 ) -> Result<Encoding, AssignFault>
-    requires some { 1 ≤ length orders.now }
-    requires few { length orders.now ≤ SCENARIO_LIMIT }
-    requires alike { All (IsOrderOf (count_of orders.now)) orders.now }
+    requires scenarios { CanBeAssigned orders.now bits }
     requires given { length given.now ≡ length orders.now }
-    requires some_bit { 1 ≤ bits }
-    requires few_bits { bits ≤ BIT_LIMIT }
     ensures encodes { IfOk result (Encodes (count_of orders.now) orders.now given.now bits) }
     ensures first { IfOk result (IsFirstAssignment (count_of orders.now) orders.now given.now bits) }
-    ensures few_gates { count_of orders.now ≤ OPERATION_LIMIT → IfOk result (λ e. length e.gates.gates ≤ 64320) }
+    ensures few_gates { count_of orders.now ≤ OPERATION_LIMIT → IfOk result (λ e. length e.gates.gates ≤ most_gates) }
     ensures too_few_bits { IsErrOf result AssignFault.TooFewBits ↔ (2 ^ bits < length orders.now) }
     ensures clash { (k : ℕ) → IsErrOf result (AssignFault.Clash (record { 0 = k })) → IsFirstClash given.now (2 ^ bits) k }
 {
@@ -72,15 +66,11 @@ fn assign_on(
     codes: &[u8],
     bits: u8,
 ) -> Result<Encoding, Memory>
-    requires some { 1 ≤ length orders.now }
-    requires few { length orders.now ≤ SCENARIO_LIMIT }
-    requires alike { All (IsOrderOf (count_of orders.now)) orders.now }
+    requires scenarios { CanBeAssigned orders.now bits }
     requires codes { AreCodes bits (length orders.now) codes.now }
-    requires some_bit { 1 ≤ bits }
-    requires few_bits { bits ≤ BIT_LIMIT }
     ensures encodes { IfOk result (λ e. (patterns : List (List Bit3)) → KeepGivenBits patterns codes.now → Encodes (count_of orders.now) orders.now patterns bits e) }
     ensures assigned { IfOk result (IsAssignmentOn codes.now (count_of orders.now) orders.now bits) }
-    ensures few_gates { count_of orders.now ≤ OPERATION_LIMIT → IfOk result (λ e. length e.gates.gates ≤ 64320) }
+    ensures few_gates { count_of orders.now ≤ OPERATION_LIMIT → IfOk result (λ e. length e.gates.gates ≤ most_gates) }
 {
     let columns = merge(alloc, orders)?;
     let list = classes(alloc, &columns)?;

@@ -109,11 +109,16 @@ module _ (count : ℕ) where
   abbrev Fits : Normal → Type 0
   Fits x = IsBelow count x.form × ((x.binding.values < 64) × SetsOnlyFixed x.binding)
 
-  normal_fits : (params : List (List ℕ)) (before : Before) (e : Expr) (bindings : List (List ℕ × Bool)) (x : Normal) → Orders before → Below (numbers_of e) → IsNormal params before e bindings x → Fits x
-  normal_fits params before e bindings x h below is =
-      (of_keys x.form.vertices (subst Below (sym is.form.vertices) (all_filtered (λ v. v < count) _ (first_appearing before.orders e) (first_below before.orders h e below))), (is.binding.few.1, sets_only_fixed params bindings x.binding is.binding))
+  normal_fits : (params : List (List ℕ)) (before : Before) (e : Expr) (bindings : List (List ℕ × Bool)) (x : Normal) →
+      Orders before → Below (numbers_of e) → IsNormal params before e bindings x → Fits x
+  normal_fits params before e bindings x h below is = (
+    of_keys x.form.vertices (subst Below (sym is.form.vertices)
+        (all_filtered (λ v. v < count) _ (first_appearing before.orders e) (first_below before.orders h e below))),
+    (is.binding.few.1, sets_only_fixed params bindings x.binding is.binding),
+  )
 
-  statement_fits : (params : List (List ℕ)) (before : Before) (s : Statement) (R : List Normal → Type 0) → ((xs : List Normal) → R xs → AllByRecursion Fits xs) → Orders before → Below (statement_numbers s)
+  statement_fits : (params : List (List ℕ)) (before : Before) (s : Statement) (R : List Normal → Type 0) →
+      ((xs : List Normal) → R xs → AllByRecursion Fits xs) → Orders before → Below (statement_numbers s)
       → (xs : List Normal) → StatementNormals params before s R xs → AllByRecursion Fits xs
   statement_fits params before (statement.Params ws) R rest h below xs hx = rest xs hx
   statement_fits params before (statement.Graph w e) R rest h below xs hx = subst (AllByRecursion Fits) (sym hx.whole) (normal_fits params before e [] hx.one h below hx.is, rest hx.more hx.rest)
@@ -139,7 +144,8 @@ each_fits : (f : Contents) (xs : List Normal) → IsFile f → AreNormalsOf f xs
 each_fits f xs file are = all_fit (length f.operations) (params_in f) f.statements none_before (λ i s at. statement-below f i s file at) (λ name. tt) xs are.forms
 
 -- each vertex of a form is an operation of the file
-pub form_is_below : (f : Contents) (xs : List Normal) (i count : ℕ) (form : Form) → IsFile f → AreNormalsOf f xs → IsSomeAnd (slice_get xs i) (λ x. form ≡ x.form) → count ≡ length f.operations → IsBelow count form
+pub form_is_below : (f : Contents) (xs : List Normal) (i count : ℕ) (form : Form) → IsFile f → AreNormalsOf f xs →
+    IsSomeAnd (slice_get xs i) (λ x. form ≡ x.form) → count ≡ length f.operations → IsBelow count form
 form_is_below f xs i count form file are at is = subst (λ k. IsBelow k form) (sym is) (form_at (length f.operations) xs i form (each_fits f xs file are) at)
 
 -- bindings have six bits

@@ -71,7 +71,10 @@ module _ (t k among ones zeros : ℕ)
           parts b = and_parts (bit (bit_xor ones zeros) b.at) (bit among b.at) (sym (bit-and (bit_xor ones zeros) among b.at) ∙ b.passes)
 
   pub keeps_from : sometimes (bit (bit_and (bit_xor ones zeros) among)) ≡ false → Keeps t k among
-  keeps_from h n lt chosen = turned_same t k n (sym (ones_are n lt) ∙ xor_alike ones zeros n (left (bit (bit_xor ones zeros) n) (bit among n) chosen (sym (bit-and (bit_xor ones zeros) among n) ∙ none_below (bit (bit_and (bit_xor ones zeros) among)) 64 h n lt)) ∙ zeros_are n lt)
+  keeps_from h n lt chosen =
+      turned_same t k n (sym (ones_are n lt) ∙ xor_alike ones zeros n
+      (left (bit (bit_xor ones zeros) n) (bit among n) chosen (sym (bit-and (bit_xor ones zeros) among n)
+      ∙ none_below (bit (bit_and (bit_xor ones zeros) among)) 64 h n lt)) ∙ zeros_are n lt)
     where
       left : (a b : Bool) → b ≡ true → (a && b) ≡ false → a ≡ false
       left true b is none = absurd (both_ways _ none is)
@@ -81,9 +84,13 @@ module _ (t k among ones zeros : ℕ)
 
 pub no_vertex : (count v : ℕ) (es : List (ℕ × Table)) → AllByRecursion (λ e. e.0 < count) es → count ≤ v → word (lookup (λ w. v == w) es) ≡ 0
 no_vertex count v [] all h = refl
-no_vertex count v (e ∷ es) all h = ap (λ b. word (cond b (Some e.1) (lookup (λ w. v == w) es))) (ne_eqb v e.0 (λ same. (let l = all.0 in let s = same in omega (arith, l, s)))) ∙ no_vertex count v es all.1 h
+no_vertex count v (e ∷ es) all h =
+    ap (λ b. word (cond b (Some e.1) (lookup (λ w. v == w) es)))
+    (ne_eqb v e.0 (λ same. (let l = all.0 in let s = same in omega (arith, l, s)))) ∙ no_vertex count v es all.1 h
 
-ends-entries : (f : Form) (es : List ((ℕ × ℕ) × Table)) (u v n : ℕ) → n < 64 → AllByRecursion (AsksForEnds f) es → bit (word (lookup (is_arc u v) es)) n ≡ true → (bit (vertex_table f u) n ≡ true) × (bit (vertex_table f v) n ≡ true)
+ends-entries : (f : Form) (es : List ((ℕ × ℕ) × Table)) (u v n : ℕ) → n < 64 → AllByRecursion (AsksForEnds f) es →
+    bit (word (lookup (is_arc u v) es)) n ≡ true →
+    (bit (vertex_table f u) n ≡ true) × (bit (vertex_table f v) n ≡ true)
 ends-entries f [] u v n h all held = absurd (both_ways _ (no_ones n) held)
 ends-entries f (e ∷ es) u v n h all held = elim (cases_Bool (is_arc u v e.0)) [
   | inl same ↦ (
@@ -117,7 +124,9 @@ arc_ends_below count f u v n is below h held = let ends = arc_has_ends f u v n i
 abbrev AgreesBelow : ℕ → ℕ → ℕ → ℕ → Type 0
 AgreesBelow fixed values n k = (j : ℕ) → j < k → bit fixed j ≡ true → bit n j ≡ bit values j
 
-pub agree_more : (fixed values n k : ℕ) (old new lit : Bool) → bit fixed k ≡ true → new ≡ (old && lit) → ((lit ≡ true) ↔ (bit n k ≡ bit values k)) → ((old ≡ true) ↔ AgreesBelow fixed values n k) → (new ≡ true) ↔ AgreesBelow fixed values n (k + 1)
+pub agree_more : (fixed values n k : ℕ) (old new lit : Bool) → bit fixed k ≡ true → new ≡ (old && lit) →
+    ((lit ≡ true) ↔ (bit n k ≡ bit values k)) → ((old ≡ true) ↔ AgreesBelow fixed values n k) →
+    (new ≡ true) ↔ AgreesBelow fixed values n (k + 1)
 agree_more fixed values n k old new lit bound is lit_is old_is = (
   (λ held j lt here. elim (cases_eq j k) [
     | inl e ↦ subst (λ i. bit n i ≡ bit values i) (sym e) (lit_is.0 (and_parts old lit (sym is ∙ held)).1)
@@ -165,7 +174,8 @@ module _ (f : Form) (fixed values among : ℕ) (among_is : (n : ℕ) → n < 64 
       turned true e = both_ways false refl e
       turned false e = both_ways true e refl
 
-  pub unbound_from : (k : ℕ) → k < 6 → bit fixed k ≡ false → (VertexDiffers f k among) ⊎ (ArcDiffers f k among) → ((j : ℕ) → j < k → bit fixed j ≡ false → KeepsGraph f j among) → IsUnbound f fixed values k
+  pub unbound_from : (k : ℕ) → k < 6 → bit fixed k ≡ false → (VertexDiffers f k among) ⊎ (ArcDiffers f k among) →
+      ((j : ℕ) → j < k → bit fixed j ≡ false → KeepsGraph f j among) → IsUnbound f fixed values k
   unbound_from k small free differs before = record {
     below = small;
     changes = changes_from k free differs;
@@ -197,7 +207,8 @@ vertex_added T v w old new here is before = elim (cases_Bool (w == v)) [
 
 pub vertex_skipped : (T : ℕ → Bool) (v w : ℕ) (old : Bool) → T v ≡ false → old ≡ (nat_lt w v && T w) → old ≡ (nat_lt w (v + 1) && T w)
 vertex_skipped T v w old none before = elim (cases_Bool (w == v)) [
-  | inl same ↦ before ∙ ap (λ b. nat_lt w v && b) (ap T (eqb-true w v same) ∙ none) ∙ and-false (nat_lt w v) ∙ sym (ap (λ b. nat_lt w (v + 1) && b) (ap T (eqb-true w v same) ∙ none) ∙ and-false (nat_lt w (v + 1)))
+  | inl same ↦ before ∙ ap (λ b. nat_lt w v && b) (ap T (eqb-true w v same) ∙ none) ∙ and-false (nat_lt w v)
+      ∙ sym (ap (λ b. nat_lt w (v + 1) && b) (ap T (eqb-true w v same) ∙ none) ∙ and-false (nat_lt w (v + 1)))
   | inr other ↦ before ∙ sym (ap (λ b. b && T w) (lt_next w v ∙ ap (λ b. b || nat_lt w v) other))
 ]
 

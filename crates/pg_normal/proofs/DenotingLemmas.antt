@@ -1,5 +1,5 @@
 -- The scenarios of the forms so far, and the forms that are left.
-use Rattle.std.specs.Prelude.{◌≡◌, refl, ℕ, ◌<◌, ◌≤◌, ◌+◌, Option, List, [], ◌∷◌, ◌++◌, length, slice_get, Some, None}
+use Rattle.std.specs.Prelude.{◌≡◌, refl, ℕ, ◌<◌, ◌≤◌, ◌+◌, List, [], ◌∷◌, ◌++◌, length, slice_get, Some}
 use Rattle.std.proofs.Common.{zero, suc, ap, ◌∙◌, sym, subst, drop, arith, slice_index_or, append_assoc, append-nil}
 use Rattle.std.proofs.lemmas.List.{drop_all}
 use Rattle.std.proofs.lemmas.Option.{none-some, same_Some, slice_get-get_or}
@@ -9,7 +9,6 @@ use Rattle.pg_text.specs.Contents.{Contents}
 use Rattle.pg_text.specs.Text.{IsFile}
 use Rattle.pg_normal.specs.declared.denoting.DenotingFault.{DenotingFault}
 use Rattle.pg_normal.specs.declared.denoting.DenotingFault.TheVariants as fault
-use Rattle.pg_normal.specs.declared.normal.Kind.{Kind}
 use Rattle.pg_normal.specs.declared.normal.Kind.TheVariants as kind
 use Rattle.pg_normal.specs.declared.normal.Normal.{Normal}
 use Rattle.pg_normal.specs.Changes.{IsBelow}
@@ -122,7 +121,9 @@ module _ (f : Contents) (all : List Normal) (k : ℕ) (y d : Normal) (within : k
         whole = whole ∙ sym (append_assoc at.done (here.0 ∷ []) here.1);
         forms = here.4;
         denotes = denoted_push (length f.operations) at.done scs here.0 sc at.denotes
-            (denoted (params_in f) here.3.before here.3.expr here.3.bindings here.0 y here.3.normal here.3.graph here.3.fixed here.3.values (length f.operations) sc (subst (λ n. IsInstance y.form y.binding.fixed y.binding.values n sc) count_is instance));
+            (denoted (params_in f) here.3.before here.3.expr here.3.bindings here.0 y here.3.normal here.3.graph
+            here.3.fixed here.3.values (length f.operations) sc
+            (subst (λ n. IsInstance y.form y.binding.fixed y.binding.values n sc) count_is instance));
       }
 
       -- or it is the first that leaves a parameter open

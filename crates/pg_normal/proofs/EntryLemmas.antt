@@ -34,7 +34,9 @@ still test (e ∷ es) fs n h = (elim (test e.0) as (λ b. bit (word (cond b (Som
 ]) h
 
 -- a form with one more vertex
-pub with_vertex : (f : Form) (v : ℕ) (t : Table) → IsForm f → IsWord t.0 → IsDistinct (λ v w. v == w) (map (λ e. e.0) (f.vertices ++ (v, t) ∷ [])) → IsForm (record { vertices = f.vertices ++ (v, t) ∷ []; arcs = f.arcs })
+pub with_vertex : (f : Form) (v : ℕ) (t : Table) → IsForm f → IsWord t.0 →
+    IsDistinct (λ v w. v == w) (map (λ e. e.0) (f.vertices ++ (v, t) ∷ [])) →
+    IsForm (record { vertices = f.vertices ++ (v, t) ∷ []; arcs = f.arcs })
 with_vertex f v t is some distinct = record {
   vertices = distinct;
   arcs = is.arcs;
@@ -62,15 +64,20 @@ length-push [] x = refl
 length-push (y ∷ xs) x = omega (arith, length-push xs x)
 
 -- what is found once one more entry goes last
-pub pushed : {K : Type 0} (test : K → Bool) (es : List (K × Table)) (k : K) (t : Table) → (test k ≡ true → lookup test es ≡ None) → word (lookup test (es ++ (k, t) ∷ [])) ≡ cond (test k) t.0 (word (lookup test es))
+pub pushed : {K : Type 0} (test : K → Bool) (es : List (K × Table)) (k : K) (t : Table) →
+    (test k ≡ true → lookup test es ≡ None) →
+    word (lookup test (es ++ (k, t) ∷ [])) ≡ cond (test k) t.0 (word (lookup test es))
 pushed test [] k t new = elim (test k) as (λ b. word (cond b (Some t) None) ≡ cond b t.0 0) [ true ↦ refl | false ↦ refl ]
-pushed test (e ∷ es) k t new = (elim (test e.0) as (λ b. (test k ≡ true → cond b (Some e.1) (lookup test es) ≡ None) → word (cond b (Some e.1) (lookup test (es ++ (k, t) ∷ []))) ≡ cond (test k) t.0 (word (cond b (Some e.1) (lookup test es)))) [
-  | true ↦ λ none. elim (cases_Bool (test k)) [
-    | inl same ↦ absurd (some_none (none same))
-    | inr other ↦ ap (λ b. cond b t.0 e.1.0) (sym other)
-  ]
-  | false ↦ λ none. pushed test es k t none
-]) new
+pushed test (e ∷ es) k t new =
+    (elim (test e.0) as (λ b. (test k ≡ true → cond b (Some e.1) (lookup test es) ≡ None) →
+    word (cond b (Some e.1) (lookup test (es ++ (k, t) ∷ []))) ≡ cond (test k) t.0
+    (word (cond b (Some e.1) (lookup test es)))) [
+      | true ↦ λ none. elim (cases_Bool (test k)) [
+        | inl same ↦ absurd (some_none (none same))
+        | inr other ↦ ap (λ b. cond b t.0 e.1.0) (sym other)
+      ]
+      | false ↦ λ none. pushed test es k t none
+    ]) new
   where
     some_none : Some e.1 ≡ None → ⊥
     some_none same = cc
@@ -80,5 +87,8 @@ pub vertex_pushed : (f : Form) (v : ℕ) (t : Table) → lookup (λ x. v == x) f
 vertex_pushed f v t new w = pushed (λ x. w == x) f.vertices v t (λ same. ap (λ k. lookup (λ x. k == x) f.vertices) (eqb-true w v same) ∙ new)
 
 -- and of arcs
-pub arc_pushed : (f : Form) (u v : ℕ) (t : Table) → lookup (is_arc u v) f.arcs ≡ None → (a b : ℕ) → word (lookup (is_arc a b) (f.arcs ++ ((u, v), t) ∷ [])) ≡ cond (is_arc a b (u, v)) t.0 (arc_table f a b)
-arc_pushed f u v t new a b = pushed (is_arc a b) f.arcs (u, v) t (λ same. ap₂ (λ i j. lookup (is_arc i j) f.arcs) (eqb-true a u (and_parts (a == u) (b == v) same).0) (eqb-true b v (and_parts (a == u) (b == v) same).1) ∙ new)
+pub arc_pushed : (f : Form) (u v : ℕ) (t : Table) → lookup (is_arc u v) f.arcs ≡ None → (a b : ℕ) →
+    word (lookup (is_arc a b) (f.arcs ++ ((u, v), t) ∷ [])) ≡ cond (is_arc a b (u, v)) t.0 (arc_table f a b)
+arc_pushed f u v t new a b =
+    pushed (is_arc a b) f.arcs (u, v) t (λ same. ap₂ (λ i j. lookup (is_arc i j) f.arcs)
+    (eqb-true a u (and_parts (a == u) (b == v) same).0) (eqb-true b v (and_parts (a == u) (b == v) same).1) ∙ new)

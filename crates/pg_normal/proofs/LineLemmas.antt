@@ -1,5 +1,5 @@
 -- The lines of a file's forms, form by form.
-use Rattle.std.specs.Prelude.{◌≡◌, refl, ℕ, ◌<◌, ◌≤◌, ◌+◌, List, [], ◌∷◌, ◌++◌, map, length, slice_get, Option, Some, codes}
+use Rattle.std.specs.Prelude.{◌≡◌, refl, ℕ, ◌<◌, ◌≤◌, ◌+◌, List, [], ◌∷◌, ◌++◌, map, length, slice_get, Some}
 use Rattle.std.specs.Option.{IsSomeAnd}
 use Rattle.std.proofs.Common.{ap, ap₂, ◌∙◌, sym, subst, drop, arith, slice_index_or, append_assoc, append-nil, length-append}
 use Rattle.std.proofs.lemmas.Grind.{flat_map-append}
@@ -11,9 +11,8 @@ use Rattle.pg_text.specs.declared.statement.Statement.TheVariants as statement
 use Rattle.pg_text.specs.declared.statement.Numbered.{Numbered}
 use Rattle.pg_text.specs.Contents.{Contents}
 use Rattle.pg_normal.specs.declared.normal.Normal.{Normal}
-use Rattle.pg_normal.specs.declared.normal.Origin.{Origin}
 use Rattle.pg_normal.specs.Forms.{Form}
-use Rattle.pg_normal.specs.Normals.{params_in, origin, origins_from, AreNormalsOf}
+use Rattle.pg_normal.specs.Normals.{params_in, origins_from, AreNormalsOf}
 use Rattle.pg_normal.specs.Listing.{params_lines, form_lines, normal_lines, normal_text}
 use Rattle.pg_normal.proofs.NamingLemmas.{next}
 use Rattle.pg_normal.proofs.ListingLemmas.{origin_of}
@@ -55,7 +54,16 @@ module _ (f : Contents) (x : Normal) (rest : List Normal) where
       record { before = before; here = record { line = n; statement = statement.Graph w e }; behind = left; statements = is; place = ap (λ o. o.statement) both.0; lines_are = refl; origins = both.1 }
   follows_from n (statement.Scenario w e bs) left later before is origins =
       let both = heads _ _ _ _ origins in
-      record { before = before; here = record { line = n; statement = statement.Scenario w e bs }; behind = left; statements = is; place = ap (λ o. o.statement) both.0; lines_are = refl; origins = both.1 }
+      record {
+        before = before;
+        here = record { line = n; statement = statement.Scenario w e bs };
+        behind =
+            left;
+        statements = is;
+        place = ap (λ o. o.statement) both.0;
+        lines_are = refl;
+        origins = both.1;
+      }
 
   next_statement : (left : List Numbered) → Follows left
   next_statement [] before is origins = let e = ap length origins in absurd (omega (arith, e))
@@ -85,7 +93,9 @@ written_first f xs params out are same is = record {
       ∙ ap (λ t. t ++ text_of (normal_lines f.operations (params_in f) f.statements xs)) (ap (λ ps. text_of (params_lines ps)) (sym same) ∙ sym is);
 }
 
-no_lines_from : (names params : List (List ℕ)) (line : ℕ) (s : Statement) (ss : List Numbered) → normal_lines names params ss [] ≡ [] → normal_lines names params (record { line = line; statement = s } ∷ ss) [] ≡ []
+no_lines_from : (names params : List (List ℕ)) (line : ℕ) (s : Statement) (ss : List Numbered) →
+    normal_lines names params ss [] ≡ [] → normal_lines names params
+    (record { line = line; statement = s } ∷ ss) [] ≡ []
 no_lines_from names params line (statement.Params ws) ss none = none
 no_lines_from names params line (statement.Graph w e) ss none = refl
 no_lines_from names params line (statement.Scenario w e bs) ss none = refl
@@ -112,7 +122,9 @@ module _ (f : Contents) (all : List Normal) (k : ℕ) (x d : Normal) (out : List
   pub statement_within : x.origin.statement < length f.statements
   statement_within = slice_get_within f.statements x.origin.statement here.here stands
 
-  pub written_more : (s : Statement) (names params : List (List ℕ)) (form : Form) (new : List ℕ) → IsSomeAnd (slice_get f.statements x.origin.statement) (λ n. s ≡ n.statement) → names ≡ f.operations → params ≡ params_in f → form ≡ x.form
+  pub written_more : (s : Statement) (names params : List (List ℕ)) (form : Form) (new : List ℕ) →
+      IsSomeAnd (slice_get f.statements x.origin.statement) (λ n. s ≡ n.statement) → names ≡ f.operations →
+      params ≡ params_in f → form ≡ x.form
       → new ≡ out ++ text_of (form_lines names params s form) → Written f all (drop (k + 1) all) new
   written_more s names params form new at_s names_are params_are form_is put = record {
     before = here.before ++ here.here ∷ [];

@@ -85,7 +85,9 @@ module _ (f : Form) (n i u v a b : ℕ) (at : IsSomeAnd (slice_get f.arcs i) (λ
   other_arc : is_arc a b (u, v) ≡ false → in_front f.arcs (i + 1) a b ≡ in_front f.arcs i a b
   other_arc other = next_in_front ∙ ap (λ c. in_front f.arcs i a b || c) other ∙ or-false (in_front f.arcs i a b)
 
-  pub arc_added : (old new : Bool) → bit (arc_table f u v) n ≡ true → new ≡ (is_arc a b (u, v) || old) → old ≡ (in_front f.arcs i a b && bit (arc_table f a b) n) → new ≡ (in_front f.arcs (i + 1) a b && bit (arc_table f a b) n)
+  pub arc_added : (old new : Bool) → bit (arc_table f u v) n ≡ true → new ≡ (is_arc a b (u, v) || old) →
+      old ≡ (in_front f.arcs i a b && bit (arc_table f a b) n) →
+      new ≡ (in_front f.arcs (i + 1) a b && bit (arc_table f a b) n)
   arc_added old new held is before = elim (cases_Bool (is_arc a b (u, v))) [
     | inl same ↦ is ∙ ap (λ c. c || old) same ∙ sym (and_from _ _ (next_in_front ∙ or_right (in_front f.arcs i a b) (is_arc a b (u, v)) same) (same_bit same ∙ held))
     | inr other ↦ is ∙ ap (λ c. c || old) other ∙ before ∙ ap (λ c. c && bit (arc_table f a b) n) (sym (other_arc other))
@@ -111,10 +113,12 @@ zero_unless (e ∷ es) u v = elim (cases_Bool (is_arc u v e.0)) [
 ]
 
 pub all_in_front : (f : Form) (n i u v : ℕ) → length f.arcs ≤ i → (in_front f.arcs i u v && bit (arc_table f u v) n) ≡ bit (arc_table f u v) n
-all_in_front f n i u v past = ap (λ l. list_any (λ e. is_arc u v e.0) l && bit (arc_table f u v) n) (take_all i f.arcs past) ∙ all_there (list_any (λ e. is_arc u v e.0) f.arcs) (bit (arc_table f u v) n) (elim (zero_unless f.arcs u v) [
-  | inl listed ↦ inl listed
-  | inr zero ↦ inr (ap (λ w. bit w n) zero ∙ no_ones n)
-])
+all_in_front f n i u v past =
+    ap (λ l. list_any (λ e. is_arc u v e.0) l && bit (arc_table f u v) n) (take_all i f.arcs past)
+    ∙ all_there (list_any (λ e. is_arc u v e.0) f.arcs) (bit (arc_table f u v) n) (elim (zero_unless f.arcs u v) [
+      | inl listed ↦ inl listed
+      | inr zero ↦ inr (ap (λ w. bit w n) zero ∙ no_ones n)
+    ])
 
 pub has_with_arc : (arcs : List (OpId × OpId)) (u v a b : ℕ) → has_arc (with_arc arcs u v) a b ≡ (is_arc a b (u, v) || has_arc arcs a b)
 has_with_arc arcs u v a b = grind (arith, common_steps, nat_tests)

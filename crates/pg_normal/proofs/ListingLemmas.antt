@@ -119,8 +119,13 @@ pub line_without_faults : (scope : Scope) (ss : List Numbered) (i : ℕ) (s : St
     → (line : ℕ) × (statement_faults line scope s ≡ []) × (faults_from (scope_after scope s) (drop (i + 1) ss) ≡ [])
 line_without_faults scope ss i s at none =
     let l = line_at ss i s at in
-    let split : statement_faults l.0.line scope l.0.statement ++ faults_from (scope_after scope l.0.statement) (drop (i + 1) ss) ≡ [] = sym (ap (faults_from scope) l.2) ∙ none in
-    (l.0.line, ap (statement_faults l.0.line scope) l.1 ∙ left_empty _ _ split, ap (λ t. faults_from (scope_after scope t) (drop (i + 1) ss)) l.1 ∙ right_empty (statement_faults l.0.line scope l.0.statement) _ split)
+    let split : statement_faults l.0.line scope l.0.statement ++ faults_from (scope_after scope l.0.statement) (drop (i + 1) ss) ≡ [] = sym (ap (faults_from scope) l.2) ∙ none in (
+      l.0.line,
+      ap (statement_faults l.0.line scope) l.1
+          ∙ left_empty _ _ split,
+      ap (λ t. faults_from (scope_after scope t) (drop (i + 1) ss)) l.1
+          ∙ right_empty (statement_faults l.0.line scope l.0.statement) _ split,
+    )
 
 -- ---- parameters of all lines
 
@@ -143,7 +148,8 @@ more_params (statement.Scenario name e bindings) scope = omega arith
 pub count_params : (ss : List Numbered) (scope : Scope) → length (scope_from scope ss).params ≡ length scope.params + count_of counted.Params ss
 count_params [] scope = omega arith
 count_params (n ∷ ss) scope = count_params ss (scope_after scope n.statement) ∙ ap (λ m. m + count_of counted.Params ss) (more_params n.statement scope)
-    ∙ three (length scope.params) (count_in counted.Params n.statement) (count_of counted.Params ss) ∙ ap (λ m. length scope.params + m) (sym (sum_by-cons (λ s. count_in counted.Params s.statement) n ss))
+    ∙ three (length scope.params) (count_in counted.Params n.statement) (count_of counted.Params ss)
+    ∙ ap (λ m. length scope.params + m) (sym (sum_by-cons (λ s. count_in counted.Params s.statement) n ss))
   where
     three : (a b c : ℕ) → (a + b) + c ≡ a + (b + c)
     three a b c = omega arith
@@ -186,7 +192,9 @@ at_first count f none file known is = subst (λ k. At count f k 0 []) (sym is) (
 })
 
 pub at_last : (count : ℕ) (f : Contents) (known : Known) (i : ℕ) (xs : List Normal) → At count f known i xs → length f.statements ≤ i → AreNormals (params_in f) none_before f.statements xs
-at_last count f known i xs at le = subst (AreNormals (params_in f) none_before f.statements) (append-nil xs) (at.forms [] (subst (λ ss. AreNormals (params_in f) at.before ss []) (sym (drop_all i f.statements le)) refl))
+at_last count f known i xs at le =
+    subst (AreNormals (params_in f) none_before f.statements) (append-nil xs)
+    (at.forms [] (subst (λ ss. AreNormals (params_in f) at.before ss []) (sym (drop_all i f.statements le)) refl))
 
 pub origins_at_last : (count : ℕ) (f : Contents) (known : Known) (i : ℕ) (xs : List Normal) → At count f known i xs → length f.statements ≤ i → map origin_of xs ≡ origins_from 0 f.statements
 origins_at_last count f known i xs at le = sym (at.origins ∙ ap (λ ss. map origin_of xs ++ origins_from i ss) (drop_all i f.statements le) ∙ append-nil (map origin_of xs))
@@ -199,7 +207,9 @@ module _ (count : ℕ) (f : Contents) (known : Known) (i : ℕ) (xs : List Norma
   same_line : (n : ℕ) → IsSomeAnd (slice_get f.statements i) (λ t. n ≡ t.line) → n ≡ line.0.line
   same_line n at_n = subst (λ o. IsSomeAnd o (λ t. n ≡ t.line)) line.3 at_n
 
-  pub origins_after : (n : ℕ) → IsSomeAnd (slice_get f.statements i) (λ t. n ≡ t.line) → origins_from 0 f.statements ≡ map origin_of xs ++ (origin i n s ++ origins_from (i + 1) (drop (i + 1) f.statements))
+  pub origins_after : (n : ℕ) → IsSomeAnd (slice_get f.statements i) (λ t. n ≡ t.line) →
+      origins_from 0 f.statements ≡ map origin_of xs ++
+      (origin i n s ++ origins_from (i + 1) (drop (i + 1) f.statements))
   origins_after n at_n = at.origins ∙ ap (λ ss. map origin_of xs ++ origins_from i ss) line.2
       ∙ ap₂ (λ l t. map origin_of xs ++ (origin i l t ++ origins_from (i + 1) (drop (i + 1) f.statements))) (sym (same_line n at_n)) (sym line.1)
 
@@ -212,6 +222,9 @@ module _ (count : ℕ) (f : Contents) (known : Known) (i : ℕ) (xs : List Norma
   pub whole_after : scope_from nothing f.statements ≡ scope_from (scope_after at.scope s) (drop (i + 1) f.statements)
   whole_after = at.whole ∙ ap (scope_from at.scope) line.2 ∙ ap (λ t. scope_from (scope_after at.scope t) (drop (i + 1) f.statements)) (sym line.1)
 
-  pub forms_after : (rest : List Normal) → StatementNormals (params_in f) at.before s (AreNormals (params_in f) (with_statement (params_in f) at.before s) (drop (i + 1) f.statements)) rest → AreNormals (params_in f) none_before f.statements (xs ++ rest)
+  pub forms_after : (rest : List Normal) →
+      StatementNormals (params_in f) at.before s
+      (AreNormals (params_in f) (with_statement (params_in f) at.before s) (drop (i + 1) f.statements)) rest →
+      AreNormals (params_in f) none_before f.statements (xs ++ rest)
   forms_after rest h = at.forms rest (subst (λ ss. AreNormals (params_in f) at.before ss rest) (sym line.2)
       (subst (λ t. StatementNormals (params_in f) at.before t (AreNormals (params_in f) (with_statement (params_in f) at.before t) (drop (i + 1) f.statements)) rest) line.1 h))

@@ -114,11 +114,17 @@ module _ (order : List ℕ) (i x : ℕ) (at : slice_get order i ≡ Some x) wher
   pub table_added : (tables : List ℕ) (old new w v : ℕ) → w ≡ slice_index tables x → new ≡ cond (v == x) w old → old ≡ cond (has (take i order) v) (slice_index tables v) 0
       → new ≡ cond (has (take (i + 1) order) v) (slice_index tables v) 0
   table_added tables old new w v is after before = elim (cases_Bool (v == x)) [
-    | inl same ↦ after ∙ ap (λ b. cond b w old) same ∙ is ∙ ap (slice_index tables) (sym (eqb-true v x same)) ∙ sym (ap (λ b. cond b (slice_index tables v) 0) (has-next v ∙ ap (λ b. has (take i order) v || b) same ∙ or-true (has (take i order) v)))
-    | inr other ↦ after ∙ ap (λ b. cond b w old) other ∙ before ∙ sym (ap (λ b. cond b (slice_index tables v) 0) (has-next v ∙ ap (λ b. has (take i order) v || b) other ∙ or-false (has (take i order) v)))
+    | inl same ↦ after ∙ ap (λ b. cond b w old) same ∙ is ∙ ap (slice_index tables) (sym (eqb-true v x same))
+        ∙ sym (ap (λ b. cond b (slice_index tables v) 0) (has-next v ∙ ap (λ b. has (take i order) v || b) same
+        ∙ or-true (has (take i order) v)))
+    | inr other ↦ after ∙ ap (λ b. cond b w old) other ∙ before
+        ∙ sym (ap (λ b. cond b (slice_index tables v) 0) (has-next v ∙ ap (λ b. has (take i order) v || b) other
+        ∙ or-false (has (take i order) v)))
   ]
 
-  pub table_skipped : (tables : List ℕ) (old v : ℕ) → slice_index tables x ≡ 0 → old ≡ cond (has (take i order) v) (slice_index tables v) 0 → old ≡ cond (has (take (i + 1) order) v) (slice_index tables v) 0
+  pub table_skipped : (tables : List ℕ) (old v : ℕ) → slice_index tables x ≡ 0 →
+      old ≡ cond (has (take i order) v) (slice_index tables v) 0 →
+      old ≡ cond (has (take (i + 1) order) v) (slice_index tables v) 0
   table_skipped tables old v zero_there before = table_added tables old old 0 v (sym zero_there) (same (cases_Bool (v == x))) before
     where
       same : ((v == x) ≡ true) ⊎ ((v == x) ≡ false) → old ≡ cond (v == x) 0 old

@@ -72,12 +72,16 @@ mutual
   appears earlier t orders known (Overlay' shape members) v h = appears_over earlier t orders known members v h
   appears earlier t orders known (Sequence' shape members) v h = appears_line earlier t orders known members v h
 
-  appears_over : {m : _} → (earlier : Earlier) (t : Valuation) (orders : List ℕ → List ℕ) → Lists orders earlier → (row : Row_of-Expr m) (v : ℕ) → (overlay_row earlier t row).vertex v ≡ true → has (appearing_row orders row) v ≡ true
+  appears_over : {m : _} → (earlier : Earlier) (t : Valuation) (orders : List ℕ → List ℕ) → Lists orders earlier →
+      (row : Row_of-Expr m) (v : ℕ) → (overlay_row earlier t row).vertex v ≡ true →
+      has (appearing_row orders row) v ≡ true
   appears_over earlier t orders known end_of-Expr v h = no h
   appears_over earlier t orders known (more_of-Expr e rest) v h = two (appearing orders e) (appearing_row orders rest) v ((graph_of earlier t e).vertex v) ((overlay_row earlier t rest).vertex v)
       (λ one. appears earlier t orders known e v one) (λ other. appears_over earlier t orders known rest v other) h
 
-  appears_line : {m : _} → (earlier : Earlier) (t : Valuation) (orders : List ℕ → List ℕ) → Lists orders earlier → (row : Row_of-Expr m) (v : ℕ) → (sequence_row earlier t row).vertex v ≡ true → has (appearing_row orders row) v ≡ true
+  appears_line : {m : _} → (earlier : Earlier) (t : Valuation) (orders : List ℕ → List ℕ) → Lists orders earlier →
+      (row : Row_of-Expr m) (v : ℕ) → (sequence_row earlier t row).vertex v ≡ true →
+      has (appearing_row orders row) v ≡ true
   appears_line earlier t orders known end_of-Expr v h = no h
   appears_line earlier t orders known (more_of-Expr e rest) v h = two (appearing orders e) (appearing_row orders rest) v ((graph_of earlier t e).vertex v) ((sequence_row earlier t rest).vertex v)
       (λ one. appears earlier t orders known e v one) (λ other. appears_line earlier t orders known rest v other) h

@@ -21,7 +21,9 @@ sound-When count params c e = refl
 -- what a prefix and what it governs speak of
 pub under_parts : (count : ℕ) (params : List (List ℕ)) (whole : Expr) (c : Cond) (e : Expr) → whole ≡ When c e → IsTrue (is_sound count params whole)
     → IsTrue (list_all (has_text params) (params_of c)) × IsTrue (is_sound count params e)
-under_parts count params whole c e is sound = and_parts (list_all (has_text params) (params_of c)) (is_sound count params e) (subst (λ b. IsTrue b) (ap (is_sound count params) is ∙ sound-When count params c e) sound)
+under_parts count params whole c e is sound =
+    and_parts (list_all (has_text params) (params_of c)) (is_sound count params e)
+    (subst (λ b. IsTrue b) (ap (is_sound count params) is ∙ sound-When count params c e) sound)
 
 pub sound-Overlay : (count : ℕ) (params : List (List ℕ)) (es : List Expr) → is_sound count params (Overlay (record { members = es })) ≡ all_sound count params es
 unfolding hidden-the_row-Expr-1 hidden
@@ -48,7 +50,9 @@ appearing-Sequence earlier [] = refl
 appearing-Sequence earlier (e ∷ es) = ap (λ vs. appearing earlier e ++ vs) (appearing-Sequence earlier es)
 
 -- whichever sign joins the members
-pub appearing-row : (earlier : List ℕ → List ℕ) (e : Expr) (es : List Expr) → (e ≡ Overlay (record { members = es })) ⊎ (e ≡ Sequence (record { members = es })) → flat_map (appearing earlier) es ≡ appearing earlier e
+pub appearing-row : (earlier : List ℕ → List ℕ) (e : Expr) (es : List Expr) →
+    (e ≡ Overlay (record { members = es })) ⊎ (e ≡ Sequence (record { members = es })) →
+    flat_map (appearing earlier) es ≡ appearing earlier e
 appearing-row earlier e es (inl is) = sym (ap (appearing earlier) is ∙ appearing-Overlay earlier es)
 appearing-row earlier e es (inr is) = sym (ap (appearing earlier) is ∙ appearing-Sequence earlier es)
 

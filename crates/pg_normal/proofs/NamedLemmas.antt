@@ -34,10 +34,16 @@ module _ (y : Tables) (ts : List Tables) where
 
 -- the first name is the graph's, or another one is
 at_cons : (x other : List ℕ) (ns : List (List ℕ)) (y : Tables) (ts : List Tables) → tables_at (y ∷ ts) (place_of (x ∷ ns) other) ≡ cond (bytes_eq other x) (Some y) (tables_at ts (place_of ns other))
-at_cons x other ns y ts = elim (bytes_eq other x) as (λ b. tables_at (y ∷ ts) (cond (nat_lt (cond (not b) (1 + position_or_len (bytes_eq other) ns) 0) (length (x ∷ ns))) (Some (cond (not b) (1 + position_or_len (bytes_eq other) ns) 0)) None) ≡ cond b (Some y) (tables_at ts (place_of ns other))) [
-  | true ↦ ap (λ b. tables_at (y ∷ ts) (cond b (Some 0) None)) (some_more (length ns)) ∙ first y ts
-  | false ↦ ap (λ b. tables_at (y ∷ ts) (cond b (Some (1 + position_or_len (bytes_eq other) ns)) None)) (both_more (position_or_len (bytes_eq other) ns) (length ns)) ∙ later y ts (nat_lt (position_or_len (bytes_eq other) ns) (length ns)) (position_or_len (bytes_eq other) ns)
-]
+at_cons x other ns y ts =
+    elim (bytes_eq other x) as (λ b. tables_at (y ∷ ts)
+    (cond (nat_lt (cond (not b) (1 + position_or_len (bytes_eq other) ns) 0) (length (x ∷ ns)))
+    (Some (cond (not b) (1 + position_or_len (bytes_eq other) ns) 0)) None) ≡ cond b (Some y)
+    (tables_at ts (place_of ns other))) [
+      | true ↦ ap (λ b. tables_at (y ∷ ts) (cond b (Some 0) None)) (some_more (length ns)) ∙ first y ts
+      | false ↦ ap (λ b. tables_at (y ∷ ts) (cond b (Some (1 + position_or_len (bytes_eq other) ns)) None))
+          (both_more (position_or_len (bytes_eq other) ns) (length ns))
+          ∙ later y ts (nat_lt (position_or_len (bytes_eq other) ns) (length ns)) (position_or_len (bytes_eq other) ns)
+    ]
 
 swap : {A : Type 0} (a b : Bool) (x y z : A) → (a ≡ true → b ≡ true → ⊥) → cond a x (cond b y z) ≡ cond b y (cond a x z)
 swap true true x y z apart = absurd (apart refl refl)

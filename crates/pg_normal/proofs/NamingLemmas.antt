@@ -1,5 +1,5 @@
 -- Faults of names, part by part.
-use Rattle.std.specs.Prelude.{◌≡◌, ◌⊎◌, refl, ℕ, ◌<◌, ◌+◌, false, List, [], ◌∷◌, ◌++◌, map, length, slice_get, Option, Some, None, is_some}
+use Rattle.std.specs.Prelude.{◌≡◌, ◌⊎◌, refl, ℕ, ◌<◌, ◌+◌, false, List, [], ◌∷◌, ◌++◌, map, length, slice_get, Some, is_some}
 use Rattle.std.specs.List.{flat_map}
 use Rattle.std.proofs.Common.{ap, ◌∙◌, sym, subst, get_or, slice_index_or, drop, suc, add-one, inl, inr}
 use Rattle.std.proofs.Math.Seq.{drop-cons}
@@ -61,7 +61,9 @@ pub faults-Not : (line : ℕ) (params : List (List ℕ)) (c : Cond) → cond_fau
 faults-Not line params c = ap (flat_map (unknown_param line params)) (params_of-Not c)
 
 -- whichever sign joins them
-pub faults-conditions : (line : ℕ) (params : List (List ℕ)) (c : Cond) (cs : List Cond) → (c ≡ And (record { members = cs })) ⊎ (c ≡ Or (record { members = cs })) → flat_map (unknown_param line params) (flat_map params_of cs) ≡ cond_faults line params c
+pub faults-conditions : (line : ℕ) (params : List (List ℕ)) (c : Cond) (cs : List Cond) →
+    (c ≡ And (record { members = cs })) ⊎ (c ≡ Or (record { members = cs })) →
+    flat_map (unknown_param line params) (flat_map params_of cs) ≡ cond_faults line params c
 faults-conditions line params c cs (inl is) = ap (flat_map (unknown_param line params)) (sym (ap params_of is ∙ params_of-And cs))
 faults-conditions line params c cs (inr is) = ap (flat_map (unknown_param line params)) (sym (ap params_of is ∙ params_of-Or cs))
 
@@ -87,7 +89,9 @@ uses-row : (e : Expr) (es : List Expr) → (e ≡ Overlay (record { members = es
 uses-row e es (inl is) = ap uses is ∙ uses-Overlay es
 uses-row e es (inr is) = ap uses is ∙ uses-Sequence es
 
-pub faults-row : (line : ℕ) (scope : Scope) (e : Expr) (es : List Expr) → (e ≡ Overlay (record { members = es })) ⊎ (e ≡ Sequence (record { members = es })) → flat_map (expr_faults line scope) es ≡ expr_faults line scope e
+pub faults-row : (line : ℕ) (scope : Scope) (e : Expr) (es : List Expr) →
+    (e ≡ Overlay (record { members = es })) ⊎ (e ≡ Sequence (record { members = es })) →
+    flat_map (expr_faults line scope) es ≡ expr_faults line scope e
 faults-row line scope e es is = sym (ap (flat_map (unknown line scope)) (uses-row e es is) ∙ flat_map-twice (unknown line scope) uses es)
 
 -- ---- one line more

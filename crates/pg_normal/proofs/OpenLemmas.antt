@@ -53,7 +53,8 @@ denoted_closed count x sc k d left =
 -- ---- a statement and its normal form
 
 module _ (params : List (List ℕ)) (before : Before) (e : Expr) (bindings : List (List ℕ × Bool)) (x : Stated) (one : Normal) (is : IsNormal params before e bindings one)
-    (graph : (n : ℕ) → x.graph n ≡ graph_of (before.graphs n) (valuation params n) e) (fixed : (k : ℕ) → x.fixed k ≡ binds params bindings k) (values : (k : ℕ) → x.values k ≡ binds_one params bindings k) where
+    (graph : (n : ℕ) → x.graph n ≡ graph_of (before.graphs n) (valuation params n) e) (fixed : (k : ℕ) →
+    x.fixed k ≡ binds params bindings k) (values : (k : ℕ) → x.values k ≡ binds_one params bindings k) where
   agrees : (n : ℕ) → AgreesWith x n → Agrees one.binding.fixed one.binding.values n
   agrees n a k l held = a k l (fixed k ∙ sym (is.binding.fixed k) ∙ held) ∙ values k ∙ sym (is.binding.values k)
 
@@ -72,7 +73,10 @@ module _ (params : List (List ℕ)) (before : Before) (e : Expr) (bindings : Lis
     numbered = h.below;
     agrees = agreed h.valuation h.agrees;
     turned_agrees = agreed (flip h.valuation k) h.turned_agrees;
-    differs = λ same. h.differs (is.form.graph h.valuation h.below ∙ sym (graph h.valuation) ∙ same ∙ graph (flip h.valuation k) ∙ sym (is.form.graph (flip h.valuation k) (valuations_are_numbered.flip_below h.valuation k l h.below)));
+    differs =
+        λ same. h.differs (is.form.graph h.valuation h.below ∙ sym (graph h.valuation) ∙ same
+        ∙ graph (flip h.valuation k) ∙ sym (is.form.graph (flip h.valuation k)
+        (valuations_are_numbered.flip_below h.valuation k l h.below)));
   }
 
   pub to_open : (k : ℕ) → LeavesOpen x k → ChangesGraph one.form one.binding.fixed one.binding.values k
@@ -81,7 +85,10 @@ module _ (params : List (List ℕ)) (before : Before) (e : Expr) (bindings : Lis
     below = h.numbered;
     agrees = agrees h.valuation h.agrees;
     turned_agrees = agrees (flip h.valuation k) h.turned_agrees;
-    differs = λ same. h.differs (graph h.valuation ∙ sym (is.form.graph h.valuation h.numbered) ∙ same ∙ is.form.graph (flip h.valuation k) (valuations_are_numbered.flip_below h.valuation k h.below h.numbered) ∙ sym (graph (flip h.valuation k)));
+    differs =
+        λ same. h.differs (graph h.valuation ∙ sym (is.form.graph h.valuation h.numbered) ∙ same
+        ∙ is.form.graph (flip h.valuation k) (valuations_are_numbered.flip_below h.valuation k h.below h.numbered)
+        ∙ sym (graph (flip h.valuation k)));
   }
 
 -- ---- a parameter that is left open is one of the file's
@@ -108,7 +115,9 @@ module _ (params : List (List ℕ)) (a b : ℕ) (v : valuation params a ≡ valu
 
   pub same_graphs : (before : Before) (ss : List Numbered) → before.graphs a ≡ before.graphs b → (t : ℕ) (x : Stated) → slice_get (stated_from params before ss) t ≡ Some x → x.graph a ≡ x.graph b
   same_graphs before [] g t x at = absurd (none-some x at)
-  same_graphs before (s ∷ ss) g t x at = same_at before s.line s.statement (stated_from params (with_statement params before s.statement) ss) g (same_graphs (with_statement params before s.statement) ss (same_after before s.statement g)) t x at
+  same_graphs before (s ∷ ss) g t x at =
+      same_at before s.line s.statement (stated_from params (with_statement params before s.statement) ss) g
+      (same_graphs (with_statement params before s.statement) ss (same_after before s.statement g)) t x at
 
 pub open_is_known : (f : Contents) (t k : ℕ) (x : Stated) → slice_get (stated_in f) t ≡ Some x → LeavesOpen x k → k < length (params_in f)
 open_is_known f t k x at left = elim (cases_lt k (length (params_in f))) [

@@ -12,7 +12,7 @@ use Rattle.pg_algebra.specs.Meaning.{graph_of}
 use Rattle.pg_normal.specs.declared.tables.Tables.{Tables}
 use Rattle.pg_normal.specs.declared.known.Known.{Known}
 use Rattle.pg_normal.specs.Appearing.{appearing, first_appearing, has}
-use Rattle.pg_normal.specs.Known.{IsSquare, IsOver, entry, graph_of_tables, graph_or_empty, order_or_none, tables_at, tables_named, graphs_known, orders_known}
+use Rattle.pg_normal.specs.Known.{HasFullRows, IsOver, entry, graph_of_tables, graph_or_empty, order_or_none, tables_at, tables_named, graphs_known, orders_known}
 use Rattle.pg_normal.proofs.MeaningLemmas.{HasEnds, ends, appears}
 use Rattle.pg_normal.proofs.OrderLemmas.{listed}
 
@@ -42,7 +42,7 @@ lists-option count n h (Some t) over v there = (over t refl).listed v n h there
 
 -- tables of an expression over what is known
 pub tables_are_over : (count : ℕ) (known : Known) (e : Expr) (t : Tables) → AllByRecursion (IsOver count) known.tables
-    → length t.vertices ≡ count → IsSquare count t.arcs
+    → length t.vertices ≡ count → HasFullRows count t.arcs
     → ((n : ℕ) → n < 64 → graph_of_tables t n ≡ graph_of (graphs_known known n) (valuation known.params n) e)
     → t.order ≡ first_appearing (orders_known known) e
     → IsOver count t
@@ -52,10 +52,15 @@ tables_are_over count known e t all vertices square graph order = record {
   first = λ u v n h held. ap (λ g. g.vertex u) (graph n h) ∙ (end n h u v held).0;
   second = λ u v n h held. ap (λ g. g.vertex v) (graph n h) ∙ (end n h u v held).1;
   listed = λ v n h held. ap (λ vs. has vs v) order ∙ listed [] (appearing (orders_known known) e) v
-      (appears (graphs_known known n) (valuation known.params n) (orders_known known) (λ name w there. lists-option count n h (tables_named known name) (λ x is. known_is_over count known name x all is) w there) e v
+      (appears (graphs_known known n) (valuation known.params n) (orders_known known)
+      (λ name w there. lists-option count n h (tables_named known name)
+      (λ x is. known_is_over count known name x all is) w there) e v
       (sym (ap (λ g. g.vertex v) (graph n h)) ∙ held));
 }
   where
     end : (n : ℕ) → n < 64 → (u v : ℕ) → bit (entry t.arcs u v) n ≡ true
         → ((graph_of (graphs_known known n) (valuation known.params n) e).vertex u ≡ true) × ((graph_of (graphs_known known n) (valuation known.params n) e).vertex v ≡ true)
-    end n h u v held = ends (graphs_known known n) (valuation known.params n) (λ name. ends-option count n h (tables_named known name) (λ x is. known_is_over count known name x all is)) e u v (sym (ap (λ g. g.arc u v) (graph n h)) ∙ held)
+    end n h u v held =
+        ends (graphs_known known n) (valuation known.params n)
+        (λ name. ends-option count n h (tables_named known name)
+        (λ x is. known_is_over count known name x all is)) e u v (sym (ap (λ g. g.arc u v) (graph n h)) ∙ held)

@@ -1,5 +1,5 @@
 -- What the statements of a file say of its scenarios: how many they are, their names, and their forms.
-use Rattle.std.specs.Prelude.{◌≡◌, refl, ℕ, ◌<◌, ◌≤◌, ◌+◌, Bool, List, [], ◌∷◌, ◌++◌, length, map}
+use Rattle.std.specs.Prelude.{◌≡◌, refl, ℕ, ◌+◌, Bool, List, [], ◌∷◌, ◌++◌, length, map}
 use Rattle.std.proofs.Common.{ap, ◌∙◌, sym, subst, arith, append_assoc, append-nil}
 use Rattle.std.proofs.lemmas.List.Sums.{sum_by-cons}
 use Rattle.cpog_base.specs.declared.limits.Counted.TheVariants as counted
@@ -41,10 +41,18 @@ abbrev name_of : Stated → List ℕ
 name_of x = x.name
 
 module _ (params : List (List ℕ)) where
-  names_behind : (before : Before) (ss : List Numbered) → ((sc : Scope) → (scope_from sc ss).scenarios ≡ sc.scenarios ++ map name_of (stated_from params before ss)) → (scope : Scope) (earlier : Before) (line : ℕ) (s : Statement)
-      → before ≡ with_statement params earlier s → (scope_from (scope_after scope s) ss).scenarios ≡ scope.scenarios ++ map name_of (stated params earlier line s ++ stated_from params (with_statement params earlier s) ss)
-  names_behind before ss later scope earlier line (statement.Params names) is = later (scope_after scope (statement.Params names)) ∙ ap (λ b. scope.scenarios ++ map name_of (stated_from params b ss)) is
-  names_behind before ss later scope earlier line (statement.Graph name e) is = later (scope_after scope (statement.Graph name e)) ∙ ap (λ b. scope.scenarios ++ map name_of (stated_from params b ss)) is
+  names_behind : (before : Before) (ss : List Numbered) →
+      ((sc : Scope) → (scope_from sc ss).scenarios ≡ sc.scenarios ++ map name_of (stated_from params before ss)) →
+      (scope : Scope) (earlier : Before) (line : ℕ) (s : Statement)
+      → before ≡ with_statement params earlier s →
+      (scope_from (scope_after scope s) ss).scenarios ≡ scope.scenarios ++ map name_of
+      (stated params earlier line s ++ stated_from params (with_statement params earlier s) ss)
+  names_behind before ss later scope earlier line (statement.Params names) is =
+      later (scope_after scope (statement.Params names))
+      ∙ ap (λ b. scope.scenarios ++ map name_of (stated_from params b ss)) is
+  names_behind before ss later scope earlier line (statement.Graph name e) is =
+      later (scope_after scope (statement.Graph name e))
+      ∙ ap (λ b. scope.scenarios ++ map name_of (stated_from params b ss)) is
   names_behind before ss later scope earlier line (statement.Scenario name e bindings) is = later (scope_after scope (statement.Scenario name e bindings))
       ∙ append_assoc scope.scenarios (name ∷ []) (map name_of (stated_from params before ss)) ∙ ap (λ b. scope.scenarios ++ name ∷ map name_of (stated_from params b ss)) is
 
@@ -84,13 +92,16 @@ module _ (params : List (List ℕ)) (ss : List Numbered) (place : ℕ) where
   abbrev Later : Before → Type 0
   Later before = (ys : List Normal) → AreNormals params before ss ys → map origin_of ys ≡ origins_from (place + 1) ss → AreFormsFor params ys (stated_from params before ss)
 
-  forms_behind : (before : Before) (line : ℕ) (s : Statement) → Later (with_statement params before s) → (ys : List Normal) → StatementNormals params before s (AreNormals params (with_statement params before s) ss) ys
+  forms_behind : (before : Before) (line : ℕ) (s : Statement) → Later (with_statement params before s) →
+      (ys : List Normal) → StatementNormals params before s (AreNormals params (with_statement params before s) ss) ys
       → map origin_of ys ≡ origin place line s ++ origins_from (place + 1) ss → AreFormsFor params ys (stated params before line s ++ stated_from params (with_statement params before s) ss)
   forms_behind before line (statement.Params names) later ys are origins = later ys are origins
   forms_behind before line (statement.Graph name e) later ys are origins =
       let both = heads _ _ _ _ (ap (map origin_of) (sym are.whole) ∙ origins) in
       subst (λ zs. AreFormsFor params zs (stated_from params (with_statement params before (statement.Graph name e)) ss)) (sym are.whole)
-      (subst (λ k. IsNext params k (stated_from params (with_statement params before (statement.Graph name e)) ss) are.one (AreFormsFor params are.more)) (sym (ap (λ o. o.kind) both.0)) (later are.more are.rest both.1))
+      (subst (λ k. IsNext params k (stated_from params
+      (with_statement params before (statement.Graph name e)) ss) are.one (AreFormsFor params are.more))
+      (sym (ap (λ o. o.kind) both.0)) (later are.more are.rest both.1))
   forms_behind before line (statement.Scenario name e bindings) later ys are origins =
       let both = heads _ _ _ _ (ap (map origin_of) (sym are.whole) ∙ origins) in
       let xs = stated params before line (statement.Scenario name e bindings) ++ stated_from params before ss in
@@ -100,9 +111,13 @@ module _ (params : List (List ℕ)) (ss : List Numbered) (place : ℕ) where
         later are.more are.rest both.1,
       ))
 
-forms_from : (params : List (List ℕ)) (ss : List Numbered) (place : ℕ) (before : Before) (ys : List Normal) → AreNormals params before ss ys → map origin_of ys ≡ origins_from place ss → AreFormsFor params ys (stated_from params before ss)
+forms_from : (params : List (List ℕ)) (ss : List Numbered) (place : ℕ) (before : Before) (ys : List Normal) →
+    AreNormals params before ss ys → map origin_of ys ≡ origins_from place ss →
+    AreFormsFor params ys (stated_from params before ss)
 forms_from params [] place before ys are origins = subst (λ zs. AreFormsFor params zs []) (sym are) refl
-forms_from params (s ∷ ss) place before ys are origins = forms_behind params ss place before s.line s.statement (forms_from params ss (place + 1) (with_statement params before s.statement)) ys are origins
+forms_from params (s ∷ ss) place before ys are origins =
+    forms_behind params ss place before s.line s.statement
+    (forms_from params ss (place + 1) (with_statement params before s.statement)) ys are origins
 
 pub forms_for : (f : Contents) (ys : List Normal) → AreNormalsOf f ys → AreFormsFor (params_in f) ys (stated_in f)
 forms_for f ys are = forms_from (params_in f) f.statements 0 none_before ys are.forms are.origins

@@ -39,9 +39,13 @@ known_first f known params scope is same whole = is ∙ (λ j. record { params =
 pub at_match : (f : Contents) (i : ℕ) (s t : Statement) → IsSomeAnd (slice_get f.statements i) (λ n. s ≡ n.statement) → s ≡ t → IsSomeAnd (slice_get f.statements i) (λ n. t ≡ n.statement)
 at_match f i s t at is = subst (λ u. IsSomeAnd (slice_get f.statements i) (λ n. u ≡ n.statement)) is at
 
-pub below_match : (f : Contents) (count : ℕ) (operations : List (List ℕ)) (s t : Statement) → AllByRecursion (λ n. n < length f.operations) (statement_numbers s) → s ≡ t → count ≡ length operations → operations ≡ f.operations
+pub below_match : (f : Contents) (count : ℕ) (operations : List (List ℕ)) (s t : Statement) →
+    AllByRecursion (λ n. n < length f.operations) (statement_numbers s) → s ≡ t → count ≡ length operations →
+    operations ≡ f.operations
     → AllByRecursion (λ n. n < count) (statement_numbers t)
-below_match f count operations s t below is counts same = subst (λ k. AllByRecursion (λ n. n < k) (statement_numbers t)) (sym (counts ∙ ap length same)) (subst (λ u. AllByRecursion (λ n. n < length f.operations) (statement_numbers u)) is below)
+below_match f count operations s t below is counts same =
+    subst (λ k. AllByRecursion (λ n. n < k) (statement_numbers t)) (sym (counts ∙ ap length same))
+    (subst (λ u. AllByRecursion (λ n. n < length f.operations) (statement_numbers u)) is below)
 
 pub at_same : (count : ℕ) (f : Contents) (known more : Known) (i : ℕ) (xs new : List Normal) → more ≡ known → new ≡ xs → At count f known i xs → At count f more i new
 at_same count f known more i xs new same is at = subst (λ k. At count f k i new) (sym same) (subst (At count f known i) (sym is) at)
@@ -82,7 +86,10 @@ module _ (count : ℕ) (f : Contents) (known : Known) (i : ℕ) (xs : List Norma
     graph_faults = line_without_faults at.scope f.statements i (statement.Graph name e) at_s at.faults
 
     pub graph_new : has_text known.graphs name ≡ false
-    graph_new = ap (λ gs. has_text gs name) at.names ∙ new_if (has_text at.scope.graphs name) (fault.Duplicate graph_faults.0 name) (left_empty (again graph_faults.0 at.scope.graphs name) _ graph_faults.1)
+    graph_new =
+        ap (λ gs. has_text gs name) at.names ∙ new_if (has_text at.scope.graphs name)
+        (fault.Duplicate graph_faults.0 name) (left_empty
+        (again graph_faults.0 at.scope.graphs name) _ graph_faults.1)
 
     pub graph_sound : AllByRecursion (λ n. n < count) (numbers_of e) → is_sound count known.params e ≡ true
     graph_sound below = sound count graph_faults.0 at.scope known.params more_known e below (right_empty (again graph_faults.0 at.scope.graphs name) _ graph_faults.1)
@@ -105,11 +112,21 @@ module _ (count : ℕ) (f : Contents) (known : Known) (i : ℕ) (xs : List Norma
       graphs = λ m h. (λ j other. (graphs m other h ∙ ap₂ (λ g ps. cond (bytes_eq other name) (graph_of g (valuation ps m) e) (g other)) (at.graphs m h) at.params) j);
       origins = origins_added count f known i xs at (statement.Graph name e) at_s n x _ at_n origin_is refl;
       orders = λ j other. (orders other ∙ ap (λ o. cond (bytes_eq other name) (first_appearing o e) (o other)) at.orders) j;
-      forms = λ rest h. listed x rest (forms_after count f known i xs at (statement.Graph name e) at_s (x ∷ rest) (record { one = x; more = rest; whole = refl; is = record { form = form_before e x form; binding = binding }; rest = h }));
+      forms =
+          λ rest h. listed x rest (forms_after count f known i xs at (statement.Graph name e) at_s (x ∷ rest)
+          (record {
+            one = x;
+            more = rest;
+            whole = refl;
+            is = record
+                { form = form_before e x form; binding = binding };
+            rest = h;
+          }));
     }
 
   module _ (name : List ℕ) (e : Expr) (bindings : List (List ℕ × Bool)) (at_s : IsSomeAnd (slice_get f.statements i) (λ n. statement.Scenario name e bindings ≡ n.statement)) where
-    scenario_faults : (line : ℕ) × (statement_faults line at.scope (statement.Scenario name e bindings) ≡ []) × (faults_from (scope_after at.scope (statement.Scenario name e bindings)) (drop (i + 1) f.statements) ≡ [])
+    scenario_faults : (line : ℕ) × (statement_faults line at.scope (statement.Scenario name e bindings) ≡ []) ×
+        (faults_from (scope_after at.scope (statement.Scenario name e bindings)) (drop (i + 1) f.statements) ≡ [])
     scenario_faults = line_without_faults at.scope f.statements i (statement.Scenario name e bindings) at_s at.faults
 
     pub scenario_sound : AllByRecursion (λ n. n < count) (numbers_of e) → is_sound count known.params e ≡ true
@@ -131,5 +148,14 @@ module _ (count : ℕ) (f : Contents) (known : Known) (i : ℕ) (xs : List Norma
       graphs = at.graphs;
       orders = at.orders;
       origins = origins_added count f known i xs at (statement.Scenario name e bindings) at_s n x _ at_n origin_is refl;
-      forms = λ rest h. listed x rest (forms_after count f known i xs at (statement.Scenario name e bindings) at_s (x ∷ rest) (record { one = x; more = rest; whole = refl; is = record { form = form_before e x form; binding = subst (λ ps. IsBinding ps bindings x.binding) at.params binding }; rest = h }));
+      forms =
+          λ rest h. listed x rest (forms_after count f known i xs at (statement.Scenario name e bindings) at_s
+          (x ∷ rest) (record {
+            one = x;
+            more = rest;
+            whole = refl;
+            is = record
+                { form = form_before e x form; binding = subst (λ ps. IsBinding ps bindings x.binding) at.params binding };
+            rest = h;
+          }));
     }

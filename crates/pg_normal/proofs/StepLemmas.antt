@@ -83,7 +83,9 @@ line_done g t guard items i a whole h so_far =
 
 pub sound_step : (count : ℕ) (params : List (List ℕ)) (items : List Expr) (i : ℕ) (x : Expr) → i < length items → x ≡ get_or items i x
     → IsTrue (all_sound count params (drop i items)) → IsTrue (is_sound count params x) × IsTrue (all_sound count params (drop (i + 1) items))
-sound_step count params items i x h at all = and_parts (is_sound count params x) (all_sound count params (drop (i + 1) items)) (subst (λ es. IsTrue (all_sound count params es)) (next_item items i x h at) all)
+sound_step count params items i x h at all =
+    and_parts (is_sound count params x) (all_sound count params (drop (i + 1) items))
+    (subst (λ es. IsTrue (all_sound count params es)) (next_item items i x h at) all)
 
 pub op_added : (vertices after : List ℕ) (arcs : List (List ℕ)) (v n : ℕ) (guard : Bool)
     → bit (slice_index after v) n ≡ (bit (slice_index vertices v) n || guard)

@@ -76,13 +76,18 @@ module _ (names params : List (List ℕ)) where
   statement_same (statement.Scenario w e bs) before R rest same xs ys hx hy =
       let line : Normal → List ℕ = λ x. definition_text (codes "scenario ") w (form_text x.form names params) ++ with_text bs in
       ap (first_line line rest) hx.whole
-      ∙ ap₂ (λ t ls. (definition_text (codes "scenario ") w t ++ with_text bs) ∷ ls) (one_form_text names params _ _ hx.one.form hy.one.form hx.is.form hy.is.form) (same hx.more hy.more hx.rest hy.rest)
+      ∙ ap₂ (λ t ls. (definition_text (codes "scenario ") w t ++ with_text bs) ∷ ls)
+      (one_form_text names params _ _ hx.one.form hy.one.form hx.is.form hy.is.form)
+      (same hx.more hy.more hx.rest hy.rest)
       ∙ sym (ap (first_line line rest) hy.whole)
 
-  same_lines : (ss : List Numbered) (before : Before) (xs ys : List Normal) → AreNormals params before ss xs → AreNormals params before ss ys → normal_lines names params ss xs ≡ normal_lines names params ss ys
+  same_lines : (ss : List Numbered) (before : Before) (xs ys : List Normal) → AreNormals params before ss xs →
+      AreNormals params before ss ys → normal_lines names params ss xs ≡ normal_lines names params ss ys
   same_lines [] before xs ys hx hy = refl
   same_lines (s ∷ ss) before xs ys hx hy =
-      statement_same s.statement before (AreNormals params (with_statement params before s.statement) ss) (normal_lines names params ss) (λ ps qs. same_lines ss (with_statement params before s.statement) ps qs) xs ys hx hy
+      statement_same s.statement before (AreNormals params (with_statement params before s.statement) ss)
+      (normal_lines names params ss) (λ ps qs. same_lines ss
+      (with_statement params before s.statement) ps qs) xs ys hx hy
 
 -- a file has one text of forms
 pub one_normal_text : (f : Contents) (xs ys : List Normal) → AreNormalsOf f xs → AreNormalsOf f ys → normal_text f xs ≡ normal_text f ys

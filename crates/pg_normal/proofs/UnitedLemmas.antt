@@ -11,7 +11,9 @@ use Rattle.pg_normal.specs.declared.known.Known.{Known}
 use Rattle.pg_normal.specs.Known.{AreUnited, AreJoined, entry, graph_of_rows, graph_of_tables, graph_or_empty}
 
 -- more arcs keep what is there
-pub united_grows : (known : Known) (united : List ℕ) (arcs more : List (List ℕ)) → ((u v n : ℕ) → n < 64 → bit (entry arcs u v) n ≡ true → bit (entry more u v) n ≡ true) → AreUnited known united arcs → AreUnited known united more
+pub united_grows : (known : Known) (united : List ℕ) (arcs more : List (List ℕ)) →
+    ((u v n : ℕ) → n < 64 → bit (entry arcs u v) n ≡ true → bit (entry more u v) n ≡ true) →
+    AreUnited known united arcs → AreUnited known united more
 united_grows known united arcs more grows is = record {
   each = is.each;
   there = λ i t at u v n h among held. grows u v n h (is.there i t at u v n h among held);
@@ -49,5 +51,7 @@ module _ (known : Known) (place : ℕ) (t : Tables) (at : slice_get known.tables
 
 -- ---- rows that are joined
 
-pub joined_grows : (before joined : List ℕ) (arcs more : List (List ℕ)) → ((u v n : ℕ) → n < 64 → bit (entry arcs u v) n ≡ true → bit (entry more u v) n ≡ true) → AreJoined before joined arcs → AreJoined before joined more
+pub joined_grows : (before joined : List ℕ) (arcs more : List (List ℕ)) →
+    ((u v n : ℕ) → n < 64 → bit (entry arcs u v) n ≡ true → bit (entry more u v) n ≡ true) →
+    AreJoined before joined arcs → AreJoined before joined more
 joined_grows before joined arcs more grows is u v n h hb hj = grows u v n h (is u v n h hb hj)

@@ -50,7 +50,9 @@ written_sum start f g vs a b n first second ea eb en none terms =
     let front = row_text (codes " + ") (map f vs) in
     let others = rest_text (codes " + ") (flat_map (g vs) vs) in
     ap (λ xs. second ++ rest_text (codes " + ") (flat_map (g xs) xs)) eb
-    ∙ ap (λ o. o ++ others) (terms ∙ ap (λ xs. first ++ row_text (codes " + ") (map f xs)) ea ∙ ap (λ o. o ++ front) (none ∙ ap (λ k. start ++ when_needed (k == 0) (codes "empty")) en) ∙ append_assoc start word front)
+    ∙ ap (λ o. o ++ others) (terms ∙ ap (λ xs. first ++ row_text (codes " + ") (map f xs)) ea
+    ∙ ap (λ o. o ++ front) (none ∙ ap (λ k. start ++ when_needed (k == 0) (codes "empty")) en)
+    ∙ append_assoc start word front)
     ∙ append_assoc start (word ++ front) others ∙ ap (λ t. start ++ t) (sum_parts f (g vs) vs)
 
 -- ---- the tests
@@ -75,7 +77,9 @@ depends_true : (table k : ℕ) → Changes table k → true ≡ depends table k
 unfolding depends
 depends_true table k h = elim (cases_Bool (depends table k)) [
   | inl e ↦ sym e
-  | inr e ↦ absurd (both_ways _ (none_below (λ n. differ (bit table n) (bit table (flip n k))) 64 e h.valuation h.below) (differ_true (bit table h.valuation) (bit table (flip h.valuation k)) h.differs))
+  | inr e ↦ absurd (both_ways _ (none_below
+      (λ n. differ (bit table n) (bit table (flip n k))) 64 e h.valuation h.below)
+      (differ_true (bit table h.valuation) (bit table (flip h.valuation k)) h.differs))
 ]
 
 depends_false : (table k : ℕ) → Stays table k → false ≡ depends table k

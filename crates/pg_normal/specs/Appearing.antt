@@ -3,7 +3,8 @@ use Rattle.std.specs.Prelude.{ℕ, Bool, List, [], ◌∷◌, ◌++◌, ◌==◌
 use Rattle.std.specs.List.{list_any}
 use Rattle.pg_algebra.specs.declared.expr.Expr.{Expr, Empty, Op, Graph, When', Overlay', Sequence', Row_of-Expr, end_of-Expr, more_of-Expr}
 
--- the operations as they stand in the text, under whatever condition, with those of an earlier graph in the place of its name
+-- the operations as they stand in the text, under whatever condition, with those of an earlier graph in the place of
+-- its name
 abbrev mutual
   pub appearing : (List ℕ → List ℕ) → Expr → List ℕ
   appearing earlier Empty = []

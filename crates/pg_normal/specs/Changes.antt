@@ -28,10 +28,12 @@ KeepsArcs f k among = (u v : ℕ) → Keeps (arc_table f u v) k among
 abbrev pub KeepsGraph : Form → ℕ → ℕ → Type 0
 KeepsGraph f k among = KeepsVertices f k among × KeepsArcs f k among
 
+-- some vertex differs
 pub record VertexDiffers (f : Form) (k among : ℕ) : Type 0 where
   pub vertex : ℕ
   pub differs : Differs (vertex_table f vertex) k among
 
+-- some arc differs
 pub record ArcDiffers (f : Form) (k among : ℕ) : Type 0 where
   pub first : ℕ
   pub second : ℕ

@@ -1,4 +1,5 @@
--- The scenarios that a file denotes: each is the graph of its statement under every valuation that agrees with its bindings.
+-- The scenarios that a file denotes: each is the graph of its statement under every valuation that agrees with its
+-- bindings.
 use Rattle.std.specs.Prelude.{◌≡◌, ◌≢◌, ℕ, ◌<◌, Bool, true, List, [], ◌∷◌, ◌++◌, map, length, slice_get, Some}
 use Rattle.cpog_base.specs.declared.limits.TheConstants.{PARAM_LIMIT}
 use Rattle.cpog_defs.specs.Codes.{bit}
@@ -42,7 +43,8 @@ stated params before line (statement.Scenario name e bindings) = record {
 -- what lines say of scenarios, in their order
 abbrev pub stated_from : List (List ℕ) → Before → List Numbered → List Stated
 stated_from params before [] = []
-stated_from params before (s ∷ ss) = stated params before s.line s.statement ++ stated_from params (with_statement params before s.statement) ss
+stated_from params before (s ∷ ss) =
+    stated params before s.line s.statement ++ stated_from params (with_statement params before s.statement) ss
 
 -- what a file says of its scenarios
 abbrev pub stated_in : Contents → List Stated
@@ -95,7 +97,8 @@ pub record IsFirstUnbound (f : Contents) (line k : ℕ) : Type 0 where
 
 -- ---- faults
 
--- when each fault is answered: the first scenario that leaves a parameter open, by its line, with its least such one; want of memory
+-- when each fault is answered: the first scenario that leaves a parameter open, by its line, with its least such one;
+-- want of memory
 abbrev pub IsDenotingFault : Contents → DenotingFault → Type 0
 IsDenotingFault f (fault.Unbound line k) = IsFirstUnbound f line k
 IsDenotingFault f fault.Memory = Unit {0}

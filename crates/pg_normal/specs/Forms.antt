@@ -57,7 +57,8 @@ pub record IsForm (f : Form) : Type 0 where
 abbrev pub sometimes : (ℕ → Bool) → Bool
 sometimes holds = any_below holds 64
 
--- the form of a graph under each valuation: of the operations in their order, those that occur under some valuation, and the arcs that do
+-- the form of a graph under each valuation: of the operations in their order, those that occur under some valuation,
+-- and the arcs that do
 pub record IsFormOf (graphs : ℕ → Graph) (order : List ℕ) (f : Form) : Type 0 where
   pub normal : IsForm f
   pub graph : (n : ℕ) → n < 64 → graph_at f n ≡ graphs n

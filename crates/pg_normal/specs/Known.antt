@@ -19,20 +19,22 @@ entry arcs u v = slice_index (slice_index_or arcs v []) u
 
 -- the graph of these tables under valuation n
 abbrev pub graph_of_rows : List ℕ → List (List ℕ) → ℕ → Graph
-graph_of_rows vertices arcs n = record { vertex = λ v. bit (slice_index vertices v) n; arc = λ u v. bit (entry arcs u v) n }
+graph_of_rows vertices arcs n =
+    record { vertex = λ v. bit (slice_index vertices v) n; arc = λ u v. bit (entry arcs u v) n }
 
+-- the same of tables that are kept together
 abbrev pub graph_of_tables : Tables → ℕ → Graph
 graph_of_tables t n = graph_of_rows t.vertices t.arcs n
 
 -- as many rows as each row is long
-pub record IsSquare (count : ℕ) (arcs : List (List ℕ)) : Type 0 where
+pub record HasFullRows (count : ℕ) (arcs : List (List ℕ)) : Type 0 where
   pub rows : length arcs ≡ count
   pub widths : (v : ℕ) → v < count → length (slice_index_or arcs v []) ≡ count
 
 -- over so many operations; an arc occurs only where its ends do, and what occurs is listed
 pub record IsOver (count : ℕ) (t : Tables) : Type 0 where
   pub vertices : length t.vertices ≡ count
-  pub arcs : IsSquare count t.arcs
+  pub arcs : HasFullRows count t.arcs
   pub first : (u v : ℕ) → Implies (entry t.arcs u v) (slice_index t.vertices u)
   pub second : (u v : ℕ) → Implies (entry t.arcs u v) (slice_index t.vertices v)
   pub listed : (v n : ℕ) → n < 64 → bit (slice_index t.vertices v) n ≡ true → has t.order v ≡ true
@@ -76,7 +78,8 @@ pub record IsKnown (count : ℕ) (known : Known) : Type 0 where
 
 -- under these valuations the arcs of the first are among those of the second
 abbrev pub AreThere : ℕ → List (List ℕ) → List (List ℕ) → Type 0
-AreThere among some arcs = (u v n : ℕ) → n < 64 → bit among n ≡ true → bit (entry some u v) n ≡ true → bit (entry arcs u v) n ≡ true
+AreThere among some arcs =
+    (u v n : ℕ) → n < 64 → bit among n ≡ true → bit (entry some u v) n ≡ true → bit (entry arcs u v) n ≡ true
 
 -- a table for each graph that is known: under its valuations the arcs of the graph are there
 pub record AreUnited (known : Known) (united : List ℕ) (arcs : List (List ℕ)) : Type 0 where
@@ -87,9 +90,11 @@ pub record AreUnited (known : Known) (united : List ℕ) (arcs : List (List ℕ)
 pub record AreRowsOver (known : Known) (vertices : List ℕ) (arcs : List (List ℕ)) (united : List ℕ) : Type 0 where
   pub over : IsKnown (length arcs) known
   pub width : length vertices ≡ length arcs
-  pub square : IsSquare (length arcs) arcs
+  pub square : HasFullRows (length arcs) arcs
   pub there : AreUnited known united arcs
 
 -- there is an arc from each vertex of the first row to each of the second, under the valuations of both
 abbrev pub AreJoined : List ℕ → List ℕ → List (List ℕ) → Type 0
-AreJoined before joined arcs = (u v n : ℕ) → n < 64 → bit (slice_index before u) n ≡ true → bit (slice_index joined v) n ≡ true → bit (entry arcs u v) n ≡ true
+AreJoined before joined arcs =
+    (u v n : ℕ) → n < 64 → bit (slice_index before u) n ≡ true → bit (slice_index joined v) n ≡ true →
+    bit (entry arcs u v) n ≡ true

@@ -39,9 +39,12 @@ nothing = record { params = []; graphs = []; scenarios = [] }
 
 -- with the names that the statement defines
 abbrev pub scope_after : Scope → Statement → Scope
-scope_after scope (statement.Params names) = record { params = scope.params ++ names; graphs = scope.graphs; scenarios = scope.scenarios }
-scope_after scope (statement.Graph name e) = record { params = scope.params; graphs = scope.graphs ++ name ∷ []; scenarios = scope.scenarios }
-scope_after scope (statement.Scenario name e bindings) = record { params = scope.params; graphs = scope.graphs; scenarios = scope.scenarios ++ name ∷ [] }
+scope_after scope (statement.Params names) =
+    record { params = scope.params ++ names; graphs = scope.graphs; scenarios = scope.scenarios }
+scope_after scope (statement.Graph name e) =
+    record { params = scope.params; graphs = scope.graphs ++ name ∷ []; scenarios = scope.scenarios }
+scope_after scope (statement.Scenario name e bindings) =
+    record { params = scope.params; graphs = scope.graphs; scenarios = scope.scenarios ++ name ∷ [] }
 
 -- all names that a list of lines defines
 abbrev pub scope_from : Scope → List Numbered → Scope
@@ -79,6 +82,7 @@ unknown_param line params name = fault_unless (has_text params name) (fault.Unkn
 abbrev pub unknown_graph : ℕ → List (List ℕ) → List ℕ → List NameFault
 unknown_graph line graphs name = fault_unless (has_text graphs name) (fault.UnknownGraph line name)
 
+-- a use of a name that no earlier line defines
 abbrev pub unknown : ℕ → Scope → Use → List NameFault
 unknown line scope (graph_used name) = unknown_graph line scope.graphs name
 unknown line scope (param_used name) = unknown_param line scope.params name
@@ -90,13 +94,15 @@ expr_faults line scope e = flat_map (unknown line scope) (uses e)
 -- a parameter that is not defined, or is bound in front
 abbrev pub binding_faults : ℕ → List (List ℕ) → List (List ℕ) → List (List ℕ × Bool) → List NameFault
 binding_faults line params bound [] = []
-binding_faults line params bound (b ∷ bs) = unknown_param line params b.0 ++ (again line bound b.0 ++ binding_faults line params (bound ++ b.0 ∷ []) bs)
+binding_faults line params bound (b ∷ bs) =
+    unknown_param line params b.0 ++ (again line bound b.0 ++ binding_faults line params (bound ++ b.0 ∷ []) bs)
 
 -- all faults of a statement, in the order of their places, where earlier lines define this
 abbrev pub statement_faults : ℕ → Scope → Statement → List NameFault
 statement_faults line scope (statement.Params names) = all_again line scope.params names
 statement_faults line scope (statement.Graph name e) = again line scope.graphs name ++ expr_faults line scope e
-statement_faults line scope (statement.Scenario name e bindings) = again line scope.scenarios name ++ (expr_faults line scope e ++ binding_faults line scope.params [] bindings)
+statement_faults line scope (statement.Scenario name e bindings) =
+    again line scope.scenarios name ++ (expr_faults line scope e ++ binding_faults line scope.params [] bindings)
 
 -- all faults of lines, in their order
 abbrev pub faults_from : Scope → List Numbered → List NameFault
@@ -114,6 +120,7 @@ pub record IsScopeOf (f : Contents) (scope : Scope) : Type 0 where
 
 -- ---- the first fault
 
+-- the first of these, if there is one
 abbrev pub first : List NameFault → Option NameFault
 first [] = None
 first (f ∷ fs) = Some f

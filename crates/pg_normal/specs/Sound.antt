@@ -11,7 +11,8 @@ abbrev mutual
   is_sound count params Empty = true
   is_sound count params (Op v) = nat_lt v count
   is_sound count params (Graph name) = true
-  is_sound count params (When' c shape (more_of-Expr e end_of-Expr)) = list_all (has_text params) (params_of c) && is_sound count params e
+  is_sound count params (When' c shape (more_of-Expr e end_of-Expr)) =
+      list_all (has_text params) (params_of c) && is_sound count params e
   is_sound count params (Overlay' shape members) = is_sound_row count params members
   is_sound count params (Sequence' shape members) = is_sound_row count params members
 

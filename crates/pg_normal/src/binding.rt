@@ -1,5 +1,5 @@
 //! The bindings of a statement as masks over the parameters.
-ghost use Rattle.std.specs.Prelude.{◌≡◌, ◌<◌, ◌≤◌, ◌==◌, ◌||◌, ◌&&◌, ℕ, List, [], length};
+ghost use Rattle.std.specs.Prelude.{◌≡◌, ◌^◌, ◌<◌, ◌≤◌, ◌==◌, ◌||◌, ◌&&◌, ℕ, List, [], length};
 ghost use Rattle.cpog_defs.specs.Codes.{bit};
 ghost use Rattle.pg_normal.specs.Normals.{IsBinding};
 
@@ -26,8 +26,8 @@ pub(crate) fn no_binding() -> Partial
 /// The mask with the bit of one more parameter.
 fn with_param(mask: u8, place: u8) -> u8
     requires place { place < PARAM_LIMIT }
-    requires few { mask < 64 }
-    ensures few { result < 64 }
+    requires few { mask < 2 ^ PARAM_LIMIT }
+    ensures few { result < 2 ^ PARAM_LIMIT }
     ensures bits { (k : ℕ) → bit result k ≡ (bit mask k || (place == k)) }
 {
     with_bit(u64::from(mask), place, true) as u8
@@ -36,8 +36,8 @@ fn with_param(mask: u8, place: u8) -> u8
 /// With the bit of one more parameter.
 fn bind(binding: Partial, place: u8, one: bool) -> Partial
     requires place { place < PARAM_LIMIT }
-    requires few { (binding.fixed < 64) × (binding.values < 64) }
-    ensures few { (result.fixed < 64) × (result.values < 64) }
+    requires few { (binding.fixed < 2 ^ PARAM_LIMIT) × (binding.values < 2 ^ PARAM_LIMIT) }
+    ensures few { (result.fixed < 2 ^ PARAM_LIMIT) × (result.values < 2 ^ PARAM_LIMIT) }
     ensures fixed { (k : ℕ) → bit result.fixed k ≡ (bit binding.fixed k || (place == k)) }
     ensures values { (k : ℕ) → bit result.values k ≡ (bit binding.values k || ((place == k) && one)) }
 {

@@ -1,5 +1,5 @@
 //! From the normal forms of a file to the scenarios that it denotes, in their order.
-ghost use Rattle.std.specs.Prelude.{◌≡◌, ◌<◌, ◌≤◌, IfOk, IfErr, length};
+ghost use Rattle.std.specs.Prelude.{◌≡◌, ◌^◌, ◌<◌, ◌≤◌, IfOk, IfErr, length};
 ghost use Rattle.pg_normal.specs.declared.denoting.DenotingFault.TheVariants as fault;
 ghost use Rattle.pg_normal.specs.Changes.{IsBelow};
 ghost use Rattle.pg_normal.specs.Denoting.{AreScenariosOf, IsDenotingFault, IsUnboundForm, NamesParam};
@@ -7,7 +7,7 @@ ghost use Rattle.pg_normal.specs.Instances.{IsInstance};
 ghost use Rattle.pg_normal.specs.Normals.{AreNormalsOf};
 
 use crate::{InstanceFault, Kind, Normal, NormalList, instance};
-use cpog_base::Scenario;
+use cpog_base::{PARAM_LIMIT, SCENARIO_LIMIT, Scenario};
 use pg_text::File;
 use std::alloc::{AllocFailed, Global};
 
@@ -32,7 +32,7 @@ impl<T: Drop> From<AllocFailed<T>> for DenotingFault {
 fn scenario_of(alloc: Global, normal: &Normal, count: u8) -> Result<Scenario, DenotingFault>
     requires few { count ≤ 128 }
     requires below { IsBelow count normal.now.form }
-    requires values { normal.now.binding.values < 64 }
+    requires values { normal.now.binding.values < 2 ^ PARAM_LIMIT }
     ensures ok { IfOk result (IsInstance normal.now.form normal.now.binding.fixed normal.now.binding.values count) }
     ensures err { IfErr result (IsUnboundForm normal.now) }
 {
@@ -59,7 +59,7 @@ pub fn scenarios_of(
 ) -> Result<Vec<Scenario>, DenotingFault>
     requires { AreNormalsOf file.now normals.now.normals }
     ensures scenarios { IfOk result (λ scenarios. AreScenariosOf file.now scenarios.items) }
-    ensures few { IfOk result (λ scenarios. length scenarios.items ≤ 64) }
+    ensures few { IfOk result (λ scenarios. length scenarios.items ≤ SCENARIO_LIMIT) }
     ensures err { IfErr result (IsDenotingFault file.now) }
     ensures known { IfErr result (NamesParam file.now) }
 {

@@ -1,5 +1,5 @@
 //! A scenario is the graph of its form where the bound parameters have their bits, which no other parameter may change.
-ghost use Rattle.std.specs.Prelude.{◌≡◌, ◌<◌, ◌≤◌, ◌⊎◌, ◌↔◌, ℕ, [], true, false, IfOk, IfErr, OnOk, MatchOption};
+ghost use Rattle.std.specs.Prelude.{◌≡◌, ◌^◌, ◌<◌, ◌≤◌, ◌⊎◌, ◌↔◌, ℕ, [], true, false, IfOk, IfErr, OnOk, MatchOption};
 ghost use Rattle.std.specs.Bool.{MatchBool};
 ghost use Rattle.std.specs.FinSet as set;
 ghost use Rattle.cpog_base.specs.Arcs.{has_arc};
@@ -196,7 +196,7 @@ pub fn instance(
 ) -> Result<Scenario, InstanceFault>
     requires few { count ≤ 128 }
     requires below { IsBelow count form.now }
-    requires values { binding.values < 64 }
+    requires values { binding.values < 2 ^ PARAM_LIMIT }
     ensures ok { IfOk result (IsInstance form.now binding.fixed binding.values count) }
     ensures err { IfErr result (IsInstanceFault form.now binding.fixed binding.values) }
 {

@@ -19,13 +19,6 @@ impl Scope {
         &self.params
     }
 
-    /// The graphs.
-    pub fn graphs(&self) -> &Names
-        ensures { result.now ≡ self.now.graphs }
-    {
-        &self.graphs
-    }
-
     /// The scenarios, by their numbers.
     pub fn scenarios(&self) -> &Names
         ensures { result.now ≡ self.now.scenarios }

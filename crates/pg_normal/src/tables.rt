@@ -1,7 +1,7 @@
 //! A graph under all valuations at once, with a table for each operation and each pair, by their numbers.
 ghost use Rattle.std.specs.Prelude.{◌≡◌, ◌<◌, ◌&&◌, ◌||◌, ℕ, List, length, slice_index, IfOk, false};
 ghost use Rattle.cpog_defs.specs.Codes.{bit};
-ghost use Rattle.pg_normal.specs.Known.{AreJoined, IsSquare, entry};
+ghost use Rattle.pg_normal.specs.Known.{AreJoined, HasFullRows, entry};
 
 use crate::{Appearance, Row};
 use cpog_base::Memory;
@@ -19,9 +19,9 @@ pub(crate) struct Tables {
 
 /// Adds the arcs of other rows, where the guard is 1.
 pub(crate) fn unite_rows(into: &mut [Row], from: &[Row], guard: Table)
-    requires into { IsSquare (length into.old) into.old }
-    requires from { IsSquare (length into.old) from.now }
-    ensures square { IsSquare (length into.old) into.new }
+    requires into { HasFullRows (length into.old) into.old }
+    requires from { HasFullRows (length into.old) from.now }
+    ensures square { HasFullRows (length into.old) into.new }
     ensures each { (u v n : ℕ) → bit (entry into.new u v) n ≡ (bit (entry into.old u v) n || (bit guard.0 n && bit (entry from.now u v) n)) }
 {
     'rows: for v in 0..into.len() {
@@ -31,10 +31,10 @@ pub(crate) fn unite_rows(into: &mut [Row], from: &[Row], guard: Table)
 
 /// Adds an arc from each vertex of the first row to each of the second.
 pub(crate) fn join(arcs: &mut [Row], before: &Row, here: &Row)
-    requires square { IsSquare (length arcs.old) arcs.old }
+    requires square { HasFullRows (length arcs.old) arcs.old }
     requires before { length before.now ≡ length arcs.old }
     requires here { length here.now ≡ length arcs.old }
-    ensures square { IsSquare (length arcs.old) arcs.new }
+    ensures square { HasFullRows (length arcs.old) arcs.new }
     ensures each { (u v n : ℕ) → bit (entry arcs.new u v) n ≡ (bit (entry arcs.old u v) n || (bit (slice_index before.now u) n && bit (slice_index here.now v) n)) }
 {
     'rows: for v in 0..arcs.len() {
@@ -47,12 +47,12 @@ pub(crate) fn join(arcs: &mut [Row], before: &Row, here: &Row)
 
 /// Adds an arc from each vertex of the first row to each of the last, if they are not joined yet.
 pub(crate) fn join_once(arcs: &mut [Row], before: &Row, joined: &mut Row, here: &Row)
-    requires square { IsSquare (length arcs.old) arcs.old }
+    requires square { HasFullRows (length arcs.old) arcs.old }
     requires before { length before.now ≡ length arcs.old }
     requires row { length joined.old ≡ length arcs.old }
     requires here { length here.now ≡ length arcs.old }
     requires joined { AreJoined before.now joined.old arcs.old }
-    ensures square { IsSquare (length arcs.old) arcs.new }
+    ensures square { HasFullRows (length arcs.old) arcs.new }
     ensures row { length joined.new ≡ length arcs.old }
     ensures joined { AreJoined before.now joined.new arcs.new }
     ensures each { (u v n : ℕ) → n < 64 → bit (entry arcs.new u v) n ≡ (bit (entry arcs.old u v) n || (bit (slice_index before.now u) n && bit (slice_index here.now v) n)) }
@@ -85,7 +85,7 @@ pub(crate) fn take_up(before: &mut Row, joined: &mut Row, here: &Row)
 ///
 /// `Memory` where none is left.
 pub(crate) fn zero_rows(alloc: Global, count: usize) -> Result<Vec<Row>, Memory>
-    ensures square { IfOk result (λ rows. IsSquare count rows.items) }
+    ensures square { IfOk result (λ rows. HasFullRows count rows.items) }
     ensures zeros { IfOk result (λ rows. (u v n : ℕ) → bit (entry rows.items u v) n ≡ false) }
 {
     let mut rows = Vec::new(alloc);

@@ -6,6 +6,7 @@ use Rattle.std.proofs.lemmas.List.Concat.{flat_map-append}
 use Rattle.cpog_defs.specs.Orders.{each_below}
 use Rattle.line_text.specs.Lines.{text_of}
 use Rattle.line_text.proofs.TellingLemmas.{heads}
+use Rattle.netlist_verilog.proofs.BelowLemmas.{below_suc}
 
 pub flat_below : {X : Type 0} (h : X → List ℕ) (f : ℕ → List X) (n : ℕ) → flat_map h (each_below f n) ≡ each_below (λ k. flat_map h (f k)) n
 flat_below h f zero = refl
@@ -17,10 +18,6 @@ text_below f n = flat_below (λ l. l ++ 10 ∷ []) f n
 pub same_below : {X : Type 0} (f g : ℕ → List X) (n : ℕ) → ((k : ℕ) → f k ≡ g k) → each_below f n ≡ each_below g n
 same_below f g zero h = refl
 same_below {X} f g (suc n) h = ap (λ (x : List X). x ++ f n) (same_below f g n h) ∙ ap (λ (x : List X). each_below g n ++ x) (h n)
-
--- what holds below n and of n holds below n + 1
-below_suc : (P : ℕ → Type 0) (n : ℕ) → ((k : ℕ) → k < n → P k) → P n → (k : ℕ) → k < suc n → P k
-below_suc P n h last k lt = elim (cases_lt k n) [ inl l ↦ h k l | inr g ↦ (let e : n ≡ k = omega arith in subst P e last) ]
 
 -- so many pieces, each of which tells its value
 pub below_told : (f g : ℕ → List ℕ) (P : ℕ → Type 0) (n : ℕ) → ((k : ℕ) → k < n → (x y : List ℕ) → f k ++ x ≡ g k ++ y → P k × (x ≡ y))
@@ -41,7 +38,9 @@ more_pieces g n (suc m) y lt = elim (cases_lt n m) [
 ]
 
 -- pieces that all begin with one byte, up to an end that begins with another: there are as many of them
-pub count_told : (f g : ℕ → List ℕ) (P : ℕ → Type 0) (b c : ℕ) (n m : ℕ) → (b ≡ c → ⊥) → ((k : ℕ) (x : List ℕ) → (r : List ℕ) × (f k ++ x ≡ b ∷ r)) → ((k : ℕ) (x : List ℕ) → (r : List ℕ) × (g k ++ x ≡ b ∷ r))
+pub count_told : (f g : ℕ → List ℕ) (P : ℕ → Type 0) (b c : ℕ) (n m : ℕ) → (b ≡ c → ⊥) →
+    ((k : ℕ) (x : List ℕ) → (r : List ℕ) × (f k ++ x ≡ b ∷ r)) →
+    ((k : ℕ) (x : List ℕ) → (r : List ℕ) × (g k ++ x ≡ b ∷ r))
     → ((k : ℕ) → k < n → k < m → (x y : List ℕ) → f k ++ x ≡ g k ++ y → P k × (x ≡ y)) → (x y : List ℕ) → each_below f n ++ (c ∷ x) ≡ each_below g m ++ (c ∷ y) → n ≡ m
 count_told f g P b c n m differ hf hg told x y e = elim (cases_lt n m) [
   | inl l ↦ (

@@ -22,8 +22,7 @@ use Rattle.netlist_verilog.specs.Module.{AreNames}
 use Rattle.report_text.specs.Report.{ReportValue, IsReport, IsBound}
 use Rattle.netlist_verilog.specs.Wires.{signal_text, name_of}
 use Rattle.report_text.specs.Rows.{digit, digits_of, ref_text, blank_names, scenario_lines, arc_text, gates_row, gate_row, gate_lines, op_row, op_lines, arc_row, arc_lines_from, arc_lines, line_unless_zero, head_lines, end_lines}
-use Rattle.netlist_verilog.proofs.FeedLemmas.{names_pass, name_passes}
-use Rattle.netlist_verilog.proofs.WordLemmas.{signal_passes}
+use Rattle.netlist_verilog.proofs.FeedLemmas.{names_pass, name_passes, signal_free}
 use Rattle.report_text.proofs.RowLemmas.{AllBy-below, ref_over}
 
 -- a line that isn't `netlist` and holds no line feed
@@ -61,9 +60,6 @@ digits_free bits word = each (word_bits word bits)
     each [] = tt
     each (b ∷ bs) = (digit_free b, each bs)
 
-signal_free : (inputs n : ℕ) → n < 2 ^ 64 → NoFeed (signal_text inputs n)
-signal_free inputs n lt = passes_free (signal_text inputs n) (signal_passes inputs n lt)
-
 ref_free : (inputs signals : ℕ) (r : Ref) → signals ≤ 2 ^ 64 → IsRefOver signals r → NoFeed (ref_text inputs r)
 ref_free inputs signals (Const false) fit h = clean_free (codes "0") refl
 ref_free inputs signals (Const true) fit h = clean_free (codes "1") refl
@@ -96,7 +92,9 @@ module _ (r : ReportValue) (is : IsReport r) where
 
   pub scenario_front : (s : ℕ) → AllByRecursion IsFrontLine (scenario_lines r s)
   scenario_front s = (
-    front_line (codes "scenario ") _ refl (joined_free (name_of r.scenario_names s) _ (word_free r.scenario_names s is.scenario_names) (clean_front (codes " ") _ refl (digits_free r.bits (slice_index r.encoding.codes s)))),
+    front_line (codes "scenario ") _ refl (joined_free (name_of r.scenario_names s) _
+        (word_free r.scenario_names s is.scenario_names)
+        (clean_front (codes " ") _ refl (digits_free r.bits (slice_index r.encoding.codes s)))),
     (
       front_line (codes "has") _ refl (blanks_free _ (mapped_free (name_of r.names) operation_free _)),
       (front_line (codes "arcs") _ refl (blanks_free _ (mapped_free (arc_text r.names) arc_free _)), tt),
@@ -110,16 +108,26 @@ module _ (r : ReportValue) (is : IsReport r) where
   gate_front g lt =
       let gate : Gate = get_or r.encoding.gates.gates g (record { j = 0; k = 0; table = 0 }) in
       let reads = gate_reads r.encoding.gates.inputs r.encoding.gates.gates g (record { j = 0; k = 0; table = 0 }) is.encoding.gates lt in
-      let second = clean_front (codes " ") _ refl (joined_free (signal_text r.bits gate.k) _ (signal_free r.bits gate.k (omega (arith, reads.1, lt, signals_fit))) (clean_front (codes " ") (digits_of 4 gate.table) refl (digits_free 4 gate.table))) in
+      let second =
+      clean_front (codes " ") _ refl (joined_free (signal_text r.bits gate.k) _
+      (signal_free r.bits gate.k (omega (arith, reads.1, lt, signals_fit)))
+      (clean_front (codes " ") (digits_of 4 gate.table) refl (digits_free 4 gate.table))) in
       let first = clean_front (codes " ") _ refl (joined_free (signal_text r.bits gate.j) _ (signal_free r.bits gate.j (omega (arith, reads.0, reads.1, lt, signals_fit))) second) in
       front_line (codes "g") _ refl (joined_free (decimal g) _ (decimal_free g (omega (arith, lt, is.few_gates))) first)
 
   pub gates_front : AllByRecursion IsFrontLine (gate_lines r.bits r.encoding.gates.gates)
-  gates_front = AllBy-below IsFrontLine (λ g. gate_row r.bits g (get_or r.encoding.gates.gates g (record { j = 0; k = 0; table = 0 })) ∷ []) (length r.encoding.gates.gates) (λ g lt. (gate_front g lt, tt))
+  gates_front =
+      AllBy-below IsFrontLine (λ g. gate_row r.bits g
+      (get_or r.encoding.gates.gates g (record { j = 0; k = 0; table = 0 })) ∷ []) (length r.encoding.gates.gates)
+      (λ g lt. (gate_front g lt, tt))
 
   pub ops_front : AllByRecursion IsFrontLine (op_lines r.bits r.names r.encoding.graph)
-  ops_front = AllBy-below IsFrontLine (λ v. op_row r.bits (name_of r.names v) (op_ref r.encoding.graph v) ∷ []) (length r.names) (λ v lt.
-      (front_line (codes "op ") _ refl (joined_free (name_of r.names v) _ (operation_free v) (clean_front (codes " ") _ refl (ref_free r.bits (signal_count r.encoding.gates) (op_ref r.encoding.graph v) signals_fit (is.encoding.graph.over (Op (record { 0 = v })) lt)))), tt))
+  ops_front = AllBy-below IsFrontLine (λ v. op_row r.bits (name_of r.names v) (op_ref r.encoding.graph v) ∷ []) (length r.names) (λ v lt. (
+    front_line (codes "op ") _ refl (joined_free (name_of r.names v) _ (operation_free v)
+        (clean_front (codes " ") _ refl (ref_free r.bits (signal_count r.encoding.gates)
+        (op_ref r.encoding.graph v) signals_fit (is.encoding.graph.over (Op (record { 0 = v })) lt)))),
+    tt,
+  ))
 
   unless_zero_front : (line : List ℕ) (ref : Ref) → IsFrontLine line → AllByRecursion IsFrontLine (line_unless_zero line ref)
   unless_zero_front line (Const false) h = tt
@@ -128,7 +136,10 @@ module _ (r : ReportValue) (is : IsReport r) where
 
   arc_front : (u v : ℕ) → u < length r.names → v < length r.names → IsFrontLine (arc_row r.bits (name_of r.names u) (name_of r.names v) (arc_ref r.encoding.graph u v))
   arc_front u v lu lv =
-      let ref = clean_front (codes " ") _ refl (ref_free r.bits (signal_count r.encoding.gates) (arc_ref r.encoding.graph u v) signals_fit (ref_over (length r.names) (signal_count r.encoding.gates) r.encoding.graph u v is.encoding.graph lu lv)) in
+      let ref =
+      clean_front (codes " ") _ refl (ref_free r.bits (signal_count r.encoding.gates)
+      (arc_ref r.encoding.graph u v) signals_fit
+      (ref_over (length r.names) (signal_count r.encoding.gates) r.encoding.graph u v is.encoding.graph lu lv)) in
       front_line (codes "arc ") _ refl (joined_free (name_of r.names u) _ (operation_free u) (clean_front (codes " ") _ refl (joined_free (name_of r.names v) _ (operation_free v) ref)))
 
   pub arcs_front : AllByRecursion IsFrontLine (arc_lines r.bits r.names r.encoding.graph)

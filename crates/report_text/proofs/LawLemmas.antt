@@ -12,6 +12,7 @@ use Rattle.cpog_defs.specs.Gates.{GateList, AreGatesFrom, signal_count}
 use Rattle.cpog_defs.specs.Graphs.{ConditionalGraph, IsGraph, op_ref}
 use Rattle.cpog_defs.specs.Encodings.{Encoding}
 use Rattle.cpog_defs.specs.Scenarios.{Scenario}
+use Rattle.gate_core.proofs.GateLemmas.{gate_list_by_parts}
 use Rattle.handshake_eqs.specs.Netlists.{IsNetlistOf}
 use Rattle.line_text.specs.Lines.{text_of}
 use Rattle.line_text.specs.Words.{continues_name}
@@ -58,14 +59,19 @@ scenario_told a b ia ib eb en k ha hb x y e =
     let sa = ia.scenarios k (record { count = 0; ops = set.empty; arcs = [] }) ha in
     let sb = ib.scenarios k (record { count = 0; ops = set.empty; arcs = [] }) hb in
     let e' = e ∙ ap₂ (λ bits names. text_of (block bits names (name_of b.scenario_names k) (slice_index b.encoding.codes k) (scenario_at b k)) ++ y) (sym eb) (sym en) in
-    let r = block_told a.bits a.names (name_of a.scenario_names k) (name_of b.scenario_names k) (slice_index a.encoding.codes k) (slice_index b.encoding.codes k) (scenario_at a k) (scenario_at b k) x y ia.distinct (names_pass a.names ia.names)
+    let r =
+    block_told a.bits a.names (name_of a.scenario_names k) (name_of b.scenario_names k)
+    (slice_index a.encoding.codes k) (slice_index b.encoding.codes k) (scenario_at a k)
+    (scenario_at b k) x y ia.distinct (names_pass a.names ia.names)
     (free_name_passes _ (ia.scenario_names k [] (omega (arith, ia.one_name_each)))) (free_name_passes _ (ib.scenario_names k [] (omega (arith, ib.one_name_each))))
     (code_below a a.bits k ia refl ha) (code_below b a.bits k ib (sym eb) hb) sa.scenario sb.scenario sa.count_is (sb.count_is ∙ ap length (sym en)) e' in
     (record { name = r.0.0; code = r.0.1.0; scenario = r.0.1.1 }, r.1)
 
 -- ---- gates
 
-gate_small : (gates : List Gate) (signals m k : ℕ) (d : Gate) → AreGatesFrom signals gates → signals + length gates ≤ m → k < length gates → ((get_or gates k d).j < m) × ((get_or gates k d).k < m) × ((get_or gates k d).table < 16)
+gate_small : (gates : List Gate) (signals m k : ℕ) (d : Gate) → AreGatesFrom signals gates →
+    signals + length gates ≤ m → k < length gates →
+    ((get_or gates k d).j < m) × ((get_or gates k d).k < m) × ((get_or gates k d).table < 16)
 gate_small [] signals m k d h le lt = absurd (omega arith)
 gate_small (g ∷ gates) signals m zero d h le lt = (omega (arith, h.0, h.1), omega (arith, h.1), h.2)
 gate_small (g ∷ gates) signals m (suc k) d h le lt = gate_small gates (signals + 1) m k d h.3 (omega (arith, le)) (omega arith)
@@ -73,7 +79,9 @@ gate_small (g ∷ gates) signals m (suc k) d h le lt = gate_small gates (signals
 abbrev no_gate : Gate
 no_gate = record { j = 0; k = 0; table = 0 }
 
-gates_told : (bits bits' : ℕ) (g h : GateList) (ms ms' : List (List ℕ)) → bits ≡ bits' → length g.gates ≡ length h.gates → AreGatesFrom g.inputs g.gates → AreGatesFrom h.inputs h.gates → g.inputs + length g.gates ≤ 2 ^ 32 → h.inputs + length h.gates ≤ 2 ^ 32
+gates_told : (bits bits' : ℕ) (g h : GateList) (ms ms' : List (List ℕ)) → bits ≡ bits' →
+    length g.gates ≡ length h.gates → AreGatesFrom g.inputs g.gates → AreGatesFrom h.inputs h.gates →
+    g.inputs + length g.gates ≤ 2 ^ 32 → h.inputs + length h.gates ≤ 2 ^ 32
     → text_of (gate_lines bits g.gates ++ ms) ++ [] ≡ text_of (gate_lines bits' h.gates ++ ms') ++ [] → (g.gates ≡ h.gates) × (text_of ms ++ [] ≡ text_of ms' ++ [])
 gates_told bits bits' g h ms ms' eb same ga ha gf hf e =
     let n = length g.gates in
@@ -83,13 +91,19 @@ gates_told bits bits' g h ms ms' eb same ga ha gf hf e =
     let r = below_told (row bits g) (row bits h) (λ k. get_or g.gates k no_gate ≡ get_or h.gates k no_gate) n (λ k lt x y t.
     let sg = gate_small g.gates g.inputs (2 ^ 32) k no_gate ga gf lt in
     let sh = gate_small h.gates h.inputs (2 ^ 32) k no_gate ha hf (omega (arith, same)) in
-    gate_told bits k (get_or g.gates k no_gate) (get_or h.gates k no_gate) x y (omega (arith, gf)) (omega (arith, sg.0)) (omega (arith, sg.1)) sg.2 (omega (arith, sh.0)) (omega (arith, sh.1)) sh.2 t) (text_of ms ++ []) (text_of ms' ++ []) e2 in
+    gate_told bits k (get_or g.gates k no_gate) (get_or h.gates k no_gate) x y (omega (arith, gf))
+    (omega (arith, sg.0)) (omega (arith, sg.1)) sg.2 (omega (arith, sh.0)) (omega (arith, sh.1)) sh.2 t)
+    (text_of ms ++ []) (text_of ms' ++ []) e2 in
     (ext_get_or no_gate g.gates h.gates same r.0, r.1)
 
 -- ---- conditions
 
-graphs_told : (bits signals : ℕ) (names : List (List ℕ)) (g h : ConditionalGraph) (b c : Bound) (ms ms' : List (List ℕ)) → signals ≤ 2 ^ 64 → AreNames names → AreDistinct names → IsGraph (length names) signals g → IsGraph (length names) signals h
-    → text_of (op_lines bits names g ++ (arc_lines bits names g ++ (end_lines b ++ ms))) ++ [] ≡ text_of (op_lines bits names h ++ (arc_lines bits names h ++ (end_lines c ++ ms'))) ++ [] → (g ≡ h) × (text_of (end_lines b ++ ms) ++ [] ≡ text_of (end_lines c ++ ms') ++ [])
+graphs_told : (bits signals : ℕ) (names : List (List ℕ)) (g h : ConditionalGraph) (b c : Bound)
+    (ms ms' : List (List ℕ)) → signals ≤ 2 ^ 64 → AreNames names → AreDistinct names →
+    IsGraph (length names) signals g → IsGraph (length names) signals h
+    → text_of (op_lines bits names g ++ (arc_lines bits names g ++ (end_lines b ++ ms))) ++ [] ≡ text_of
+    (op_lines bits names h ++ (arc_lines bits names h ++ (end_lines c ++ ms'))) ++ [] →
+    (g ≡ h) × (text_of (end_lines b ++ ms) ++ [] ≡ text_of (end_lines c ++ ms') ++ [])
 graphs_told bits signals names g h b c ms ms' fit are distinct gs hs e =
     let n = length names in
     let row : ConditionalGraph → ℕ → List (List ℕ) = λ (z : ConditionalGraph) (v : ℕ). op_row bits (name_of names v) (op_ref z v) ∷ [] in
@@ -98,7 +112,10 @@ graphs_told bits signals names g h b c ms ms' fit are distinct gs hs e =
     (λ v lt x y t. op_told bits signals (name_of names v) (op_ref g v) (op_ref h v) x y fit (gs.over (Op (record { 0 = v })) lt) (hs.over (Op (record { 0 = v })) lt) t)
     (text_of (arc_lines bits names g ++ (end_lines b ++ ms)) ++ []) (text_of (arc_lines bits names h ++ (end_lines c ++ ms')) ++ []) e1 in
     let e2 = lists_differ (arc_lines bits names g) (arc_lines bits names h) (end_lines b ++ ms) (end_lines c ++ ms') [] [] ops.1 in
-    let arcs = entries_told bits signals names g h (text_of (end_lines b ++ ms) ++ []) (text_of (end_lines c ++ ms') ++ []) fit distinct (names_pass names are) gs hs (bound_after b ms []) (bound_after c ms' []) e2 in
+    let arcs =
+    entries_told bits signals names g h (text_of (end_lines b ++ ms) ++ [])
+    (text_of (end_lines c ++ ms') ++ []) fit distinct (names_pass names are) gs hs (bound_after b ms [])
+    (bound_after c ms' []) e2 in
     (same_graph n signals g h gs hs ops.0 arcs.0, arcs.1)
 
 -- ---- the whole report
@@ -108,13 +125,12 @@ after_scenarios r =
     gates_row (length r.encoding.gates.gates)
     ∷ (gate_lines r.bits r.encoding.gates.gates ++ (op_lines r.bits r.names r.encoding.graph ++ (arc_lines r.bits r.names r.encoding.graph ++ (end_lines r.bound ++ netlist_lines (module_of r)))))
 
-same_gate_lists : (g h : GateList) → g.inputs ≡ h.inputs → g.gates ≡ h.gates → g ≡ h
-same_gate_lists g h p q = λ i. record { inputs = p i; gates = q i }
-
 same_encodings : (e f : Encoding) → e.codes ≡ f.codes → e.gates ≡ f.gates → e.graph ≡ f.graph → e ≡ f
 same_encodings e f p q r = λ i. record { codes = p i; gates = q i; graph = r i }
 
-same_reports : (a b : ReportValue) → a.bits ≡ b.bits → a.budget ≡ b.budget → a.names ≡ b.names → a.scenario_names ≡ b.scenario_names → a.scenarios ≡ b.scenarios → a.encoding ≡ b.encoding → a.bound ≡ b.bound → a.netlist ≡ b.netlist → a ≡ b
+same_reports : (a b : ReportValue) → a.bits ≡ b.bits → a.budget ≡ b.budget → a.names ≡ b.names →
+    a.scenario_names ≡ b.scenario_names → a.scenarios ≡ b.scenarios → a.encoding ≡ b.encoding → a.bound ≡ b.bound →
+    a.netlist ≡ b.netlist → a ≡ b
 same_reports a b p q r s t u v w = λ i. record { bits = p i; budget = q i; names = r i; scenario_names = s i; scenarios = t i; encoding = u i; bound = v i; netlist = w i }
 
 record SameHead (a b : ReportValue) : Type 0 where
@@ -131,10 +147,20 @@ head_told a b ia ib e =
     let e0 : text_of (report_lines a) ++ [] ≡ text_of (report_lines b) ++ [] = ap (λ (t : List ℕ). t ++ []) e in
     let l1 = tails 10 10 _ _ (append_cancel_left (codes "cpog report 1") _ _ (lines_differ (codes "cpog report 1") (codes "cpog report 1")
     (bits_row a.bits ∷ budget_row a.budget ∷ operations_row a.names ∷ scenarios_on a) (bits_row b.bits ∷ budget_row b.budget ∷ operations_row b.names ∷ scenarios_on b) [] [] e0)) in
-    let l2 = number_told a.bits b.bits 10 (text_of (budget_row a.budget ∷ operations_row a.names ∷ scenarios_on a) ++ []) (text_of (budget_row b.budget ∷ operations_row b.names ∷ scenarios_on b) ++ []) (omega (arith, ia.few_bits)) (omega (arith, ib.few_bits)) refl
-    (append_cancel_left (codes "bits ") _ _ (lines_differ (bits_row a.bits) (bits_row b.bits) (budget_row a.budget ∷ operations_row a.names ∷ scenarios_on a) (budget_row b.budget ∷ operations_row b.names ∷ scenarios_on b) [] [] l1)) in
-    let l3 = number_told a.budget b.budget 10 (text_of (operations_row a.names ∷ scenarios_on a) ++ []) (text_of (operations_row b.names ∷ scenarios_on b) ++ []) (omega (arith, ia.few_budget)) (omega (arith, ib.few_budget)) refl
-    (append_cancel_left (codes "budget ") _ _ (lines_differ (budget_row a.budget) (budget_row b.budget) (operations_row a.names ∷ scenarios_on a) (operations_row b.names ∷ scenarios_on b) [] [] l2.1)) in
+    let l2 =
+    number_told a.bits b.bits 10 (text_of (budget_row a.budget ∷ operations_row a.names ∷ scenarios_on a) ++ [])
+    (text_of (budget_row b.budget ∷ operations_row b.names ∷ scenarios_on b) ++ []) (omega (arith, ia.few_bits))
+    (omega (arith, ib.few_bits)) refl
+    (append_cancel_left (codes "bits ") _ _ (lines_differ (bits_row a.bits) (bits_row b.bits)
+    (budget_row a.budget ∷ operations_row a.names ∷ scenarios_on a)
+    (budget_row b.budget ∷ operations_row b.names ∷ scenarios_on b) [] [] l1)) in
+    let l3 =
+    number_told a.budget b.budget 10 (text_of (operations_row a.names ∷ scenarios_on a) ++ [])
+    (text_of (operations_row b.names ∷ scenarios_on b) ++ []) (omega (arith, ia.few_budget))
+    (omega (arith, ib.few_budget)) refl
+    (append_cancel_left (codes "budget ") _ _
+    (lines_differ (budget_row a.budget) (budget_row b.budget) (operations_row a.names ∷ scenarios_on a)
+    (operations_row b.names ∷ scenarios_on b) [] [] l2.1)) in
     let l4 = list_told continues_name a.names b.names (text_of (scenarios_on a) ++ []) (text_of (scenarios_on b) ++ []) refl refl (names_pass a.names ia.names) (names_pass b.names ib.names)
     (append_cancel_left (codes "operations") _ _ (lines_differ (operations_row a.names) (operations_row b.names) (scenarios_on a) (scenarios_on b) [] [] l3.1)) in
     record { bits = l2.0; budget = l3.0; names = l4.0; rest = l4.1 }
@@ -149,8 +175,15 @@ scenarios_told a b ia ib head =
     let f : ℕ → List ℕ = λ (k : ℕ). text_of (scenario_lines a k) in
     let g : ℕ → List ℕ = λ (k : ℕ). text_of (scenario_lines b k) in
     let e = groups_differ (scenario_lines a) (scenario_lines b) (length a.scenarios) (length b.scenarios) (after_scenarios a) (after_scenarios b) [] [] head.rest in
-    let count = count_told f g (SameScenario a b) 115 103 (length a.scenarios) (length b.scenarios) (λ h. omega (arith, h)) (λ k x. (_, refl)) (λ k x. (_, refl)) (λ k lt lt' x y t. scenario_told a b ia ib head.bits head.names k lt lt' x y t) _ _ e in
-    let r = below_told f g (SameScenario a b) (length a.scenarios) (λ k lt x y t. scenario_told a b ia ib head.bits head.names k lt (omega (arith, count)) x y t) (text_of (after_scenarios a) ++ []) (text_of (after_scenarios b) ++ []) (e ∙ ap (λ (n : ℕ). each_below g n ++ (text_of (after_scenarios b) ++ [])) (sym count)) in
+    let count =
+    count_told f g (SameScenario a b) 115 103 (length a.scenarios) (length b.scenarios) (λ h. omega (arith, h))
+    (λ k x. (_, refl)) (λ k x. (_, refl)) (λ k lt lt' x y t.
+    scenario_told a b ia ib head.bits head.names k lt lt' x y t) _ _ e in
+    let r =
+    below_told f g (SameScenario a b) (length a.scenarios)
+    (λ k lt x y t. scenario_told a b ia ib head.bits head.names k lt (omega (arith, count)) x y t)
+    (text_of (after_scenarios a) ++ []) (text_of (after_scenarios b) ++ []) (e
+    ∙ ap (λ (n : ℕ). each_below g n ++ (text_of (after_scenarios b) ++ [])) (sym count)) in
     record { count = count; each = r.0; rest = r.1 }
 
 record SameEnd (a b : ReportValue) : Type 0 where
@@ -162,17 +195,34 @@ end_told : (a b : ReportValue) → IsReport a → IsReport b → SameHead a b �
 end_told a b ia ib head e =
     let ga = a.encoding.gates in
     let gb = b.encoding.gates in
-    let after : ReportValue → List (List ℕ) = λ (r : ReportValue). op_lines r.bits r.names r.encoding.graph ++ (arc_lines r.bits r.names r.encoding.graph ++ (end_lines r.bound ++ netlist_lines (module_of r))) in
-    let count = number_told (length ga.gates) (length gb.gates) 10 (text_of (gate_lines a.bits ga.gates ++ after a) ++ []) (text_of (gate_lines b.bits gb.gates ++ after b) ++ []) (omega (arith, ia.few_gates)) (omega (arith, ib.few_gates)) refl
-    (append_cancel_left (codes "gates ") _ _ (lines_differ (gates_row (length ga.gates)) (gates_row (length gb.gates)) (gate_lines a.bits ga.gates ++ after a) (gate_lines b.bits gb.gates ++ after b) [] [] e)) in
+    let after : ReportValue → List (List ℕ) =
+    λ (r : ReportValue). op_lines r.bits r.names r.encoding.graph ++
+    (arc_lines r.bits r.names r.encoding.graph ++ (end_lines r.bound ++ netlist_lines (module_of r))) in
+    let count =
+    number_told (length ga.gates) (length gb.gates) 10 (text_of (gate_lines a.bits ga.gates ++ after a) ++ [])
+    (text_of (gate_lines b.bits gb.gates ++ after b) ++ []) (omega (arith, ia.few_gates))
+    (omega (arith, ib.few_gates)) refl
+    (append_cancel_left (codes "gates ") _ _
+    (lines_differ (gates_row (length ga.gates)) (gates_row (length gb.gates))
+    (gate_lines a.bits ga.gates ++ after a) (gate_lines b.bits gb.gates ++ after b) [] [] e)) in
     let inputs : ga.inputs ≡ gb.inputs = ia.inputs ∙ head.bits ∙ sym ib.inputs in
-    let gates = gates_told a.bits b.bits ga gb (after a) (after b) head.bits count.0 ia.encoding.gates ib.encoding.gates (omega (arith, ia.inputs, ia.few_bits, ia.few_gates)) (omega (arith, ib.inputs, ib.few_bits, ib.few_gates)) count.1 in
-    let same : ga ≡ gb = same_gate_lists ga gb inputs gates.0 in
+    let gates =
+    gates_told a.bits b.bits ga gb (after a) (after b) head.bits count.0 ia.encoding.gates ib.encoding.gates
+    (omega (arith, ia.inputs, ia.few_bits, ia.few_gates))
+    (omega (arith, ib.inputs, ib.few_bits, ib.few_gates)) count.1 in
+    let same : ga ≡ gb = gate_list_by_parts ga gb inputs gates.0 in
     let signals : signal_count gb ≡ signal_count ga = ap signal_count (sym same) in
     let hb : IsGraph (length a.names) (signal_count ga) b.encoding.graph =
     subst (λ (n : ℕ). IsGraph n (signal_count ga) b.encoding.graph) (ap length (sym head.names)) (subst (λ (n : ℕ). IsGraph (length b.names) n b.encoding.graph) signals ib.encoding.graph) in
-    let e' = gates.1 ∙ ap₂ (λ (bits : ℕ) (names : List (List ℕ)). text_of (op_lines bits names b.encoding.graph ++ (arc_lines bits names b.encoding.graph ++ (end_lines b.bound ++ netlist_lines (module_of b)))) ++ []) (sym head.bits) (sym head.names) in
-    let graph = graphs_told a.bits (signal_count ga) a.names a.encoding.graph b.encoding.graph a.bound b.bound (netlist_lines (module_of a)) (netlist_lines (module_of b)) (omega (arith, ia.inputs, ia.few_bits, ia.few_gates)) ia.names ia.distinct ia.encoding.graph hb e' in
+    let e' =
+    gates.1 ∙ ap₂ (λ (bits : ℕ) (names : List (List ℕ)). text_of
+    (op_lines bits names b.encoding.graph ++
+    (arc_lines bits names b.encoding.graph ++ (end_lines b.bound ++ netlist_lines (module_of b)))) ++ [])
+    (sym head.bits) (sym head.names) in
+    let graph =
+    graphs_told a.bits (signal_count ga) a.names a.encoding.graph b.encoding.graph a.bound b.bound
+    (netlist_lines (module_of a)) (netlist_lines (module_of b))
+    (omega (arith, ia.inputs, ia.few_bits, ia.few_gates)) ia.names ia.distinct ia.encoding.graph hb e' in
     let bound = bound_told a.bound b.bound (length ga.gates) (length gb.gates) (netlist_lines (module_of a)) (netlist_lines (module_of b)) [] [] ia.bound ib.bound graph.1 in
     record { gates = same; graph = graph.0; bound = bound }
 
@@ -186,4 +236,6 @@ report_told a b ia ib e =
     let codes' = ext_get_or 0 a.encoding.codes b.encoding.codes (ia.one_code_each ∙ all.count ∙ sym ib.one_code_each) (λ k lt. (all.each k (omega (arith, ia.one_code_each))).code) in
     let scenarios' = ext_get_or (record { count = 0; ops = set.empty; arcs = [] }) a.scenarios b.scenarios all.count (λ k lt. (all.each k lt).scenario) in
     let encoding' = same_encodings a.encoding b.encoding codes' end.gates end.graph in
-    same_reports a b head.bits head.budget head.names names' scenarios' encoding' end.bound (one_netlist a.encoding a.netlist b.netlist ia.netlist (subst (λ (e : Encoding). IsNetlistOf e b.netlist) (sym encoding') ib.netlist))
+    same_reports a b head.bits head.budget head.names names' scenarios' encoding' end.bound
+    (one_netlist a.encoding a.netlist b.netlist ia.netlist
+    (subst (λ (e : Encoding). IsNetlistOf e b.netlist) (sym encoding') ib.netlist))

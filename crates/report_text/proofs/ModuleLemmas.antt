@@ -72,7 +72,10 @@ module_ends r is =
     let front = front_lines r in
     let module' = netlist_lines (module_of r) in
     let split : report_lines r ≡ front ++ module' =
-    behind (head_lines r) (each_below (scenario_lines r) (length r.scenarios)) (gates_row (length r.encoding.gates.gates) ∷ gate_lines r.bits r.encoding.gates.gates) (op_lines r.bits r.names r.encoding.graph) (arc_lines r.bits r.names r.encoding.graph) (end_lines r.bound) module' in
+    behind (head_lines r) (each_below (scenario_lines r) (length r.scenarios))
+    (gates_row (length r.encoding.gates.gates) ∷ gate_lines r.bits r.encoding.gates.gates)
+    (op_lines r.bits r.names r.encoding.graph) (arc_lines r.bits r.names r.encoding.graph)
+    (end_lines r.bound) module' in
     let each = front_each r is in
     let free = AllBy-append NoFeed front module' (firsts NoFeed (λ line. line ≢ codes "netlist") front each) (clean_free (codes "netlist") refl, lines_free (module_of r) (module_lawful r is)) in
     record {

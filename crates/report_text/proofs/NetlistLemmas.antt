@@ -12,7 +12,9 @@ same_wires : (e : Encoding) (n m : Netlist) → IsNetlistOf e n → IsNetlistOf 
 same_wires e n m hn hm =
     let count : length n.conditions ≡ length m.conditions = ap length (hn.conditions ∙ sym hm.conditions) in
     ext_get_or [] n.wires m.wires (hn.netlist.wires ∙ count ∙ sym hm.netlist.wires) (λ u lt.
-    ext_get_or None (get_or n.wires u []) (get_or m.wires u []) (hn.netlist.rows u (omega (arith, hn.netlist.wires)) ∙ count ∙ sym (hm.netlist.rows u (omega (arith, hn.netlist.wires)))) (λ v lt'. hn.wires u v ∙ sym (hm.wires u v)))
+    ext_get_or None (get_or n.wires u []) (get_or m.wires u []) (hn.netlist.rows u (omega (arith, hn.netlist.wires))
+    ∙ count ∙ sym (hm.netlist.rows u (omega (arith, hn.netlist.wires)))) (λ v lt'. hn.wires u v
+    ∙ sym (hm.wires u v)))
 
 -- what is waited for in one is waited for in the other
 waited : (e : Encoding) (n m : Netlist) → IsNetlistOf e n → IsNetlistOf e m → (u v : ℕ) → IsTrue (set.contains (waits_of n v) u) → IsTrue (set.contains (waits_of m v) u)
@@ -22,7 +24,9 @@ same_waits : (e : Encoding) (n m : Netlist) → IsNetlistOf e n → IsNetlistOf 
 same_waits e n m hn hm =
     let count : length n.conditions ≡ length m.conditions = ap length (hn.conditions ∙ sym hm.conditions) in
     ext_get_or set.empty n.waits m.waits (hn.netlist.waits ∙ count ∙ sym hm.netlist.waits) (λ v lt.
-    set.same_set nat_cmp_total nat_cmp-IsAntisymmetric (waits_of n v) (waits_of m v) (λ u. bool_same (set.contains (waits_of n v) u) (set.contains (waits_of m v) u) (waited e n m hn hm u v) (waited e m n hm hn u v)))
+    set.same_set nat_cmp_total nat_cmp-IsAntisymmetric (waits_of n v) (waits_of m v)
+    (λ u. bool_same (set.contains (waits_of n v) u) (set.contains (waits_of m v) u) (waited e n m hn hm u v)
+    (waited e m n hm hn u v)))
 
 -- two netlists of one encoding are one
 pub one_netlist : (e : Encoding) (n m : Netlist) → IsNetlistOf e n → IsNetlistOf e m → n ≡ m

@@ -13,6 +13,7 @@ use Rattle.cpog_defs.specs.declared.types.Place.TheVariants.{Arc}
 use Rattle.cpog_defs.specs.Orders.{each_below}
 use Rattle.cpog_defs.specs.Gates.{IsRefOver}
 use Rattle.cpog_defs.specs.Graphs.{ConditionalGraph, IsGraph, op_ref, arc_ref}
+use Rattle.gate_core.proofs.GateLemmas.{gate_by_parts}
 use Rattle.line_text.specs.Lines.{text_of}
 use Rattle.line_text.specs.Words.{continues_name}
 use Rattle.line_text.proofs.TellingLemmas.{AllPass, word_told, heads, tails, number_told, until_told}
@@ -36,10 +37,9 @@ lines_differ row row' ls ls' x y e = sym (line_first row ls x) ∙ e ∙ line_fi
 -- ---- gates
 
 signal_step : (inputs m n : ℕ) (p q x y : List ℕ) → m < 2 ^ 64 → n < 2 ^ 64 → (signal_text inputs m ++ (32 ∷ p)) ++ x ≡ (signal_text inputs n ++ (32 ∷ q)) ++ y → (m ≡ n) × (p ++ x ≡ q ++ y)
-signal_step inputs m n p q x y hm hn e = signal_told inputs m n 32 (p ++ x) (q ++ y) hm hn refl (sym (append_assoc (signal_text inputs m) (32 ∷ p) x) ∙ e ∙ append_assoc (signal_text inputs n) (32 ∷ q) y)
-
-same_gate : (g h : Gate) → g.j ≡ h.j → g.k ≡ h.k → g.table ≡ h.table → g ≡ h
-same_gate g h a b c = λ i. record { j = a i; k = b i; table = c i }
+signal_step inputs m n p q x y hm hn e =
+    signal_told inputs m n 32 (p ++ x) (q ++ y) hm hn refl (sym (append_assoc (signal_text inputs m) (32 ∷ p) x) ∙ e
+    ∙ append_assoc (signal_text inputs n) (32 ∷ q) y)
 
 pub gate_told : (inputs i : ℕ) (g h : Gate) (x y : List ℕ) → i < 2 ^ 64 → g.j < 2 ^ 64 → g.k < 2 ^ 64 → g.table < 16 → h.j < 2 ^ 64 → h.k < 2 ^ 64 → h.table < 16
     → text_of (gate_row inputs i g ∷ []) ++ x ≡ text_of (gate_row inputs i h ∷ []) ++ y → (g ≡ h) × (x ≡ y)
@@ -50,7 +50,7 @@ gate_told inputs i g h x y hi gj gk gt hj hk ht e =
     let c = signal_step inputs g.j h.j (signal_text inputs g.k ++ (32 ∷ digits_of 4 g.table)) (signal_text inputs h.k ++ (32 ∷ digits_of 4 h.table)) (10 ∷ x) (10 ∷ y) gj hj b.1 in
     let d = signal_step inputs g.k h.k (digits_of 4 g.table) (digits_of 4 h.table) (10 ∷ x) (10 ∷ y) gk hk c.1 in
     let t = digits_told 4 g.table h.table x y gt ht d.1 in
-    (same_gate g h c.0 d.0 t.0, t.1)
+    (gate_by_parts g h c.0 d.0 t.0, t.1)
 
 -- ---- the conditions of operations
 
@@ -80,7 +80,9 @@ arc_entries graph n = each_below (entries_from graph n) n
 abbrev pub entry_text : ℕ → List (List ℕ) → Entry → List ℕ
 entry_text inputs names t = arc_row inputs (name_of names t.0) (name_of names t.1.0) t.1.1 ++ 10 ∷ []
 
-one_text : (inputs : ℕ) (names : List (List ℕ)) (u v : ℕ) (r : Ref) → text_of (line_unless_zero (arc_row inputs (name_of names u) (name_of names v) r) r) ≡ flat_map (entry_text inputs names) (entry u v r)
+one_text : (inputs : ℕ) (names : List (List ℕ)) (u v : ℕ) (r : Ref) →
+    text_of (line_unless_zero (arc_row inputs (name_of names u) (name_of names v) r) r) ≡ flat_map
+    (entry_text inputs names) (entry u v r)
 one_text inputs names u v (Const false) = refl
 one_text inputs names u v (Const true) = refl
 one_text inputs names u v (Signal n negated) = refl
@@ -121,7 +123,9 @@ ref_over n signals graph u v is hu hv = elim (cases_eq u v) [
 
 pub entries_fit : (n signals : ℕ) (graph : ConditionalGraph) → IsGraph n signals graph → AllByRecursion (FitsEntry n signals) (arc_entries graph n)
 entries_fit n signals graph is =
-    AllBy-below (FitsEntry n signals) (entries_from graph n) n (λ u hu. AllBy-below (FitsEntry n signals) (λ v. entry u v (arc_ref graph u v)) n (λ v hv. entry_fits n signals u v (arc_ref graph u v) hu hv (ref_over n signals graph u v is hu hv)))
+    AllBy-below (FitsEntry n signals) (entries_from graph n) n
+    (λ u hu. AllBy-below (FitsEntry n signals) (λ v. entry u v (arc_ref graph u v)) n
+    (λ v hv. entry_fits n signals u v (arc_ref graph u v) hu hv (ref_over n signals graph u v is hu hv)))
 
 same_entry : (a b : Entry) → a.0 ≡ b.0 → a.1.0 ≡ b.1.0 → a.1.1 ≡ b.1.1 → a ≡ b
 same_entry a b p q r = λ i. (p i, (q i, r i))

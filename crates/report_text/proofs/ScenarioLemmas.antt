@@ -63,7 +63,9 @@ one_below false v n lt = tt
 members_are_below : (s : Set) (n : ℕ) → AllByRecursion (λ v. v < n) (members_below s n)
 members_are_below s n = AllBy-below (λ v. v < n) (λ v. if set.contains s v then v ∷ [] else []) n (λ v lt. one_below (set.contains s v) v n lt)
 
-numbers_are : (names : List (List ℕ)) (vs ws : List ℕ) → AreDistinct names → AllByRecursion (λ v. v < length names) vs → AllByRecursion (λ v. v < length names) ws → map (name_of names) vs ≡ map (name_of names) ws → vs ≡ ws
+numbers_are : (names : List (List ℕ)) (vs ws : List ℕ) → AreDistinct names →
+    AllByRecursion (λ v. v < length names) vs → AllByRecursion (λ v. v < length names) ws →
+    map (name_of names) vs ≡ map (name_of names) ws → vs ≡ ws
 numbers_are names [] [] distinct hv hw e = refl
 numbers_are names [] (w ∷ ws) distinct hv hw e = absurd cc
 numbers_are names (v ∷ vs) [] distinct hv hw e = absurd cc
@@ -87,8 +89,12 @@ wider (b ∷ w) h = (or-true_left (continues_name b) (eqb b 62) h.0, wider w h.1
 
 arcs_pass : (names : List (List ℕ)) (arcs : List (OpId × OpId)) → AllByRecursion (AllPass continues_name) names → AllByRecursion (AllPass arc_byte) (map (arc_text names) arcs)
 arcs_pass names [] h = tt
-arcs_pass names (a ∷ arcs) h =
-    (AllPass-append arc_byte (name_of names a.0.0) (62 ∷ name_of names a.1.0) (wider (name_of names a.0.0) (name_passes names a.0.0 h)) (refl, wider (name_of names a.1.0) (name_passes names a.1.0 h)), arcs_pass names arcs h)
+arcs_pass names (a ∷ arcs) h = (
+  AllPass-append arc_byte (name_of names a.0.0) (62 ∷ name_of names a.1.0)
+      (wider (name_of names a.0.0) (name_passes names a.0.0 h))
+      (refl, wider (name_of names a.1.0) (name_passes names a.1.0 h)),
+  arcs_pass names arcs h,
+)
 
 abbrev EndsBelow : ℕ → (OpId × OpId) → Type 0
 EndsBelow n a = (a.0.0 < n) × (a.1.0 < n)
@@ -96,12 +102,18 @@ EndsBelow n a = (a.0.0 < n) × (a.1.0 < n)
 same_arc : (a b : OpId × OpId) → a.0.0 ≡ b.0.0 → a.1.0 ≡ b.1.0 → a ≡ b
 same_arc a b p q = λ i. (record { 0 = p i }, record { 0 = q i })
 
-arc_is : (names : List (List ℕ)) (a b : OpId × OpId) → AreDistinct names → AllByRecursion (AllPass continues_name) names → EndsBelow (length names) a → EndsBelow (length names) b → arc_text names a ≡ arc_text names b → a ≡ b
+arc_is : (names : List (List ℕ)) (a b : OpId × OpId) → AreDistinct names →
+    AllByRecursion (AllPass continues_name) names → EndsBelow (length names) a → EndsBelow (length names) b →
+    arc_text names a ≡ arc_text names b → a ≡ b
 arc_is names a b distinct pass ha hb e =
-    let first = word_told continues_name (name_of names a.0.0) (name_of names b.0.0) 62 (name_of names a.1.0) (name_of names b.1.0) (name_passes names a.0.0 pass) (name_passes names b.0.0 pass) refl e in
+    let first =
+    word_told continues_name (name_of names a.0.0) (name_of names b.0.0) 62 (name_of names a.1.0)
+    (name_of names b.1.0) (name_passes names a.0.0 pass) (name_passes names b.0.0 pass) refl e in
     same_arc a b (name_is names a.0.0 b.0.0 distinct ha.0 hb.0 first.0) (name_is names a.1.0 b.1.0 distinct ha.1 hb.1 first.1)
 
-arcs_are : (names : List (List ℕ)) (vs ws : List (OpId × OpId)) → AreDistinct names → AllByRecursion (AllPass continues_name) names → AllByRecursion (EndsBelow (length names)) vs → AllByRecursion (EndsBelow (length names)) ws
+arcs_are : (names : List (List ℕ)) (vs ws : List (OpId × OpId)) → AreDistinct names →
+    AllByRecursion (AllPass continues_name) names → AllByRecursion (EndsBelow (length names)) vs →
+    AllByRecursion (EndsBelow (length names)) ws
     → map (arc_text names) vs ≡ map (arc_text names) ws → vs ≡ ws
 arcs_are names [] [] distinct pass hv hw e = refl
 arcs_are names [] (w ∷ ws) distinct pass hv hw e = absurd cc
@@ -125,13 +137,22 @@ pub block_told : (bits : ℕ) (names : List (List ℕ)) (m n : List ℕ) (c d : 
     → AllPass continues_name m → AllPass continues_name n → c < 2 ^ bits → d < 2 ^ bits → IsScenario s → IsScenario t → s.count ≡ length names → t.count ≡ length names
     → text_of (block bits names m c s) ++ x ≡ text_of (block bits names n d t) ++ y → ((m ≡ n) × ((c ≡ d) × (s ≡ t))) × (x ≡ y)
 block_told bits names m n c d s t x y distinct pass hm hn hc hd is it sn tn e =
-    let e1 = append_cancel_left (codes "scenario ") _ _ (lines_differ (scenario_row bits m c) (scenario_row bits n d) (has_row names s ∷ arcs_row names s ∷ []) (has_row names t ∷ arcs_row names t ∷ []) x y e) in
+    let e1 =
+    append_cancel_left (codes "scenario ") _ _
+    (lines_differ (scenario_row bits m c) (scenario_row bits n d) (has_row names s ∷ arcs_row names s ∷ [])
+    (has_row names t ∷ arcs_row names t ∷ []) x y e) in
     let x1 = text_of (has_row names s ∷ arcs_row names s ∷ []) ++ x in
     let y1 = text_of (has_row names t ∷ arcs_row names t ∷ []) ++ y in
-    let name = word_told continues_name m n 32 (digits_of bits c ++ 10 ∷ x1) (digits_of bits d ++ 10 ∷ y1) hm hn refl (sym (append_assoc m (32 ∷ digits_of bits c) (10 ∷ x1)) ∙ e1 ∙ append_assoc n (32 ∷ digits_of bits d) (10 ∷ y1)) in
+    let name =
+    word_told continues_name m n 32 (digits_of bits c ++ 10 ∷ x1) (digits_of bits d ++ 10 ∷ y1) hm hn refl
+    (sym (append_assoc m (32 ∷ digits_of bits c) (10 ∷ x1)) ∙ e1
+    ∙ append_assoc n (32 ∷ digits_of bits d) (10 ∷ y1)) in
     let code = digits_told bits c d x1 y1 hc hd name.1 in
     let e2 = append_cancel_left (codes "has") _ _ (lines_differ (has_row names s) (has_row names t) (arcs_row names s ∷ []) (arcs_row names t ∷ []) x y code.1) in
-    let has' = list_told continues_name (map (name_of names) (members_below s.ops s.count)) (map (name_of names) (members_below t.ops t.count)) (text_of (arcs_row names s ∷ []) ++ x) (text_of (arcs_row names t ∷ []) ++ y) refl refl (names_pass names _ pass) (names_pass names _ pass) e2 in
+    let has' =
+    list_told continues_name (map (name_of names) (members_below s.ops s.count))
+    (map (name_of names) (members_below t.ops t.count)) (text_of (arcs_row names s ∷ []) ++ x)
+    (text_of (arcs_row names t ∷ []) ++ y) refl refl (names_pass names _ pass) (names_pass names _ pass) e2 in
     let members : map (name_of names) (members_below s.ops (length names)) ≡ map (name_of names) (members_below t.ops (length names)) =
     ap (λ k. map (name_of names) (members_below s.ops k)) (sym sn) ∙ has'.0 ∙ ap (λ k. map (name_of names) (members_below t.ops k)) tn in
     let ops = same_members s.ops t.ops (length names) (λ v h. omega (arith, is.below v h, sn)) (λ v h. omega (arith, it.below v h, tn))

@@ -56,13 +56,17 @@ members_more names ops set' v a b same h =
 
 -- one more operation's condition
 pub op_more : (bits : ℕ) (names : List (List ℕ)) (graph : ConditionalGraph) (v : ℕ) (name : List ℕ) (ref : Ref) (a b : List ℕ) → slice_get names v ≡ Some name → ref ≡ op_ref graph v
-    → b ≡ a ++ text_of (each_below (λ w. op_row bits (name_of names w) (op_ref graph w) ∷ []) v) → b ++ text_of (op_row bits name ref ∷ []) ≡ a ++ text_of (each_below (λ w. op_row bits (name_of names w) (op_ref graph w) ∷ []) (v + 1))
+    → b ≡ a ++ text_of (each_below (λ w. op_row bits (name_of names w) (op_ref graph w) ∷ []) v) →
+    b ++ text_of (op_row bits name ref ∷ []) ≡ a ++ text_of
+    (each_below (λ w. op_row bits (name_of names w) (op_ref graph w) ∷ []) (v + 1))
 op_more bits names graph v name ref a b is same h =
     ap₂ (λ n r. b ++ text_of (op_row bits n r ∷ [])) (sym (get_or_from_slice_get names v name [] is)) same
     ∙ below_more_lines (λ w. op_row bits (name_of names w) (op_ref graph w) ∷ []) v a b h
 
 -- one more pair's condition
-pub arc_more : (bits : ℕ) (names : List (List ℕ)) (graph : ConditionalGraph) (u v : ℕ) (first second : List ℕ) (ref : Ref) (a b : List ℕ) → slice_get names u ≡ Some first → slice_get names v ≡ Some second → ref ≡ arc_ref graph u v
+pub arc_more : (bits : ℕ) (names : List (List ℕ)) (graph : ConditionalGraph) (u v : ℕ) (first second : List ℕ)
+    (ref : Ref) (a b : List ℕ) → slice_get names u ≡ Some first → slice_get names v ≡ Some second →
+    ref ≡ arc_ref graph u v
     → b ≡ a ++ text_of (arc_lines_from bits names graph u v) → b ++ text_of (line_unless_zero (arc_row bits first second ref) ref) ≡ a ++ text_of (arc_lines_from bits names graph u (v + 1))
 arc_more bits names graph u v first second ref a b is1 is2 same h =
     ap₂ (λ n r. b ++ text_of (line_unless_zero (arc_row bits n second r) r)) (sym (get_or_from_slice_get names u first [] is1)) same
@@ -70,7 +74,9 @@ arc_more bits names graph u v first second ref a b is1 is2 same h =
     ∙ below_more_lines (λ w. line_unless_zero (arc_row bits (name_of names u) (name_of names w) (arc_ref graph u w)) (arc_ref graph u w)) v a b h
 
 -- one more arc
-pub covers_more : (names : List (List ℕ)) (arcs : List (OpId × OpId)) (k : ℕ) (d : OpId × OpId) (first second a b : List ℕ) → k < length arcs → slice_get names ((get_or arcs k d).0.0) ≡ Some first → slice_get names ((get_or arcs k d).1.0) ≡ Some second
+pub covers_more : (names : List (List ℕ)) (arcs : List (OpId × OpId)) (k : ℕ) (d : OpId × OpId)
+    (first second a b : List ℕ) → k < length arcs → slice_get names ((get_or arcs k d).0.0) ≡ Some first →
+    slice_get names ((get_or arcs k d).1.0) ≡ Some second
     → b ≡ a ++ blank_names (map (arc_text names) (take k arcs)) → b ++ (32 ∷ (first ++ (62 ∷ second))) ≡ a ++ blank_names (map (arc_text names) (take (k + 1) arcs))
 covers_more names arcs k d first second a b lt is1 is2 h =
     ap₂ (λ m n. b ++ (32 ∷ (m ++ (62 ∷ n)))) (sym (get_or_from_slice_get names _ first [] is1)) (sym (get_or_from_slice_get names _ second [] is2))
@@ -91,7 +97,9 @@ pub at_place : (names : List (List ℕ)) (i v : ℕ) (name : List ℕ) → i ≡
 at_place names i v name e h = ap (slice_get names) (sym e) ∙ h
 
 -- the parts of a report, written one after another
-pub parts_written : (h s g p a e n : List (List ℕ)) (o1 o2 o3 o4 o5 o6 o7 : List ℕ) → o1 ≡ text_of h → o2 ≡ o1 ++ text_of s → o3 ≡ o2 ++ text_of g → o4 ≡ o3 ++ text_of p → o5 ≡ o4 ++ text_of a → o6 ≡ o5 ++ text_of e → o7 ≡ o6 ++ text_of n
+pub parts_written : (h s g p a e n : List (List ℕ)) (o1 o2 o3 o4 o5 o6 o7 : List ℕ) → o1 ≡ text_of h →
+    o2 ≡ o1 ++ text_of s → o3 ≡ o2 ++ text_of g → o4 ≡ o3 ++ text_of p → o5 ≡ o4 ++ text_of a → o6 ≡ o5 ++ text_of e →
+    o7 ≡ o6 ++ text_of n
     → o7 ≡ text_of (h ++ (s ++ (g ++ (p ++ (a ++ (e ++ n))))))
 parts_written h s g p a e n o1 o2 o3 o4 o5 o6 o7 e1 e2 e3 e4 e5 e6 e7 =
     e7
@@ -103,12 +111,18 @@ parts_written h s g p a e n o1 o2 o3 o4 o5 o6 o7 e1 e2 e3 e4 e5 e6 e7 =
     ∙ text_more (text_of h) s (g ++ (p ++ (a ++ (e ++ n))))
     ∙ text_more [] h (s ++ (g ++ (p ++ (a ++ (e ++ n)))))
 
-pub report_written : (r : ReportValue) (bits : ℕ) (gates : List Gate) (names names' : List (List ℕ)) (graph graph' : ConditionalGraph) (bound : Bound) (design : ModuleValue) (o0 o1 o2 o3 o4 o5 o6 o7 : List ℕ)
+pub report_written : (r : ReportValue) (bits : ℕ) (gates : List Gate) (names names' : List (List ℕ))
+    (graph graph' : ConditionalGraph) (bound : Bound) (design : ModuleValue) (o0 o1 o2 o3 o4 o5 o6 o7 : List ℕ)
     → bits ≡ r.bits → gates ≡ r.encoding.gates.gates → names ≡ r.names → graph ≡ r.encoding.graph → names' ≡ r.names → graph' ≡ r.encoding.graph → bound ≡ r.bound → design ≡ module_of r → o0 ≡ []
     → o1 ≡ o0 ++ text_of (head_lines r) → o2 ≡ o1 ++ text_of (each_below (scenario_lines r) (length r.scenarios)) → o3 ≡ o2 ++ text_of (gates_row (length gates) ∷ gate_lines bits gates)
-    → o4 ≡ o3 ++ text_of (op_lines bits names graph) → o5 ≡ o4 ++ text_of (arc_lines bits names' graph') → o6 ≡ o5 ++ text_of (end_lines bound) → o7 ≡ o6 ++ text_of (netlist_lines design) → o7 ≡ text_of (report_lines r)
+    → o4 ≡ o3 ++ text_of (op_lines bits names graph) → o5 ≡ o4 ++ text_of (arc_lines bits names' graph') →
+    o6 ≡ o5 ++ text_of (end_lines bound) → o7 ≡ o6 ++ text_of (netlist_lines design) →
+    o7 ≡ text_of (report_lines r)
 report_written r bits gates names names' graph graph' bound design o0 o1 o2 o3 o4 o5 o6 o7 eb eg en er en' er' ed em none e1 e2 e3 e4 e5 e6 e7 =
-    parts_written (head_lines r) (each_below (scenario_lines r) (length r.scenarios)) (gates_row (length r.encoding.gates.gates) ∷ gate_lines r.bits r.encoding.gates.gates) (op_lines r.bits r.names r.encoding.graph) (arc_lines r.bits r.names r.encoding.graph) (end_lines r.bound) (netlist_lines (module_of r)) o1 o2 o3 o4 o5 o6 o7
+    parts_written (head_lines r) (each_below (scenario_lines r) (length r.scenarios))
+    (gates_row (length r.encoding.gates.gates) ∷ gate_lines r.bits r.encoding.gates.gates)
+    (op_lines r.bits r.names r.encoding.graph) (arc_lines r.bits r.names r.encoding.graph) (end_lines r.bound)
+    (netlist_lines (module_of r)) o1 o2 o3 o4 o5 o6 o7
     (e1 ∙ ap (λ x. x ++ text_of (head_lines r)) none)
     e2
     (e3 ∙ ap₂ (λ b g. o2 ++ text_of (gates_row (length g) ∷ gate_lines b g)) eb eg)
@@ -153,8 +167,12 @@ head_joined a bits budget names =
     ∙ ap (λ x. bits ++ (second ++ x)) (append_assoc budget (10 ∷ []) (text_of ((codes "operations" ++ names) ∷ [])) ∙ ap (λ x. budget ++ (third ++ x)) (append-nil rest))))
 
 pub head_written : (r : ReportValue) (bits budget : ℕ) (names : List (List ℕ)) (a o1 o2 o3 : List ℕ) → bits ≡ r.bits → budget ≡ r.budget → names ≡ r.names
-    → o1 ≡ a ++ (codes "cpog report 1\nbits " ++ (decimal bits ++ (codes "\nbudget " ++ (decimal budget ++ codes "\noperations")))) → o2 ≡ o1 ++ blank_names names → o3 ≡ o2 ++ 10 ∷ [] → o3 ≡ a ++ text_of (head_lines r)
+    → o1 ≡ a ++ (codes "cpog report 1\nbits " ++
+    (decimal bits ++ (codes "\nbudget " ++ (decimal budget ++ codes "\noperations")))) →
+    o2 ≡ o1 ++ blank_names names → o3 ≡ o2 ++ 10 ∷ [] → o3 ≡ a ++ text_of (head_lines r)
 head_written r bits budget names a o1 o2 o3 eb ed en e1 e2 e3 =
     e3
-    ∙ ap (λ x. x ++ 10 ∷ []) (e2 ∙ ap₂ (λ x ns. x ++ blank_names ns) (e1 ∙ ap₂ (λ m n. a ++ (codes "cpog report 1\nbits " ++ (decimal m ++ (codes "\nbudget " ++ (decimal n ++ codes "\noperations"))))) eb ed) en)
+    ∙ ap (λ x. x ++ 10 ∷ []) (e2 ∙ ap₂ (λ x ns. x ++ blank_names ns) (e1
+    ∙ ap₂ (λ m n. a ++ (codes "cpog report 1\nbits " ++
+    (decimal m ++ (codes "\nbudget " ++ (decimal n ++ codes "\noperations"))))) eb ed) en)
     ∙ head_joined a (decimal r.bits) (decimal r.budget) (blank_names r.names)

@@ -8,7 +8,8 @@ use Rattle.report_text.specs.Rows.{netlist_lines, report_lines}
 
 -- two reports with the same text are one
 abbrev pub TextTellsReport : Type 0
-TextTellsReport = (a b : ReportValue) → IsReport a → IsReport b → text_of (report_lines a) ≡ text_of (report_lines b) → a ≡ b
+TextTellsReport =
+    (a b : ReportValue) → IsReport a → IsReport b → text_of (report_lines a) ≡ text_of (report_lines b) → a ≡ b
 
 -- the lines from the first that is `netlist` on are that line and the module's
 pub record EndsWithModule (text : List ℕ) (m : ModuleValue) : Type 0 where

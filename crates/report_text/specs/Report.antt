@@ -2,6 +2,7 @@
 use Rattle.std.specs.Prelude.{◌≡◌, ℕ, ◌<◌, ◌≤◌, ◌⊎◌, List, length}
 use Rattle.std.specs.List.{All, AllPairs}
 use Rattle.cpog_base.specs.Names.{AreDistinct}
+use Rattle.cpog_base.specs.declared.limits.TheConstants.{BIT_LIMIT, BUDGET_LIMIT, OPERATION_LIMIT, SCENARIO_LIMIT}
 use Rattle.cpog_defs.specs.declared.types.OpId.{OpId}
 use Rattle.cpog_defs.specs.Scenarios.{Scenario, IsScenario}
 use Rattle.cpog_defs.specs.Encodings.{Encoding, IsEncoding}
@@ -35,30 +36,35 @@ pub record IsReported (count : ℕ) (sc : Scenario) : Type 0 where
   pub scenario : IsScenario sc
   pub ascending : AllPairs IsArcBefore sc.arcs
 
--- a minimum of 0 needs no evidence, and no other bound stands without its own; nothing is known only where there is a gate
+-- a minimum of 0 needs no evidence, and no other bound stands without its own; nothing is known only where there is a
+-- gate
 abbrev pub IsBound : ℕ → Bound → Type 0
 IsBound gates (Minimum h) = h ≡ 0
 IsBound gates Unknown = 0 < gates
 
--- 1 to 8 bits, a budget of 1 to 8388608, at most 64 operations, 1 to 64 scenarios with a name and a code each, fewer
--- than 65536 gates, and the netlist of the encoding
+-- a report has fewer gates than this: 2 to the power 16, which is more than any first encoding has
+abbrev pub report_gate_limit : ℕ
+report_gate_limit = 65536
+
+-- 1 to 8 bits, a budget that may be said, at most 64 operations, 1 to 64 scenarios with a name and a code each, few
+-- gates, and the netlist of the encoding
 pub record IsReport (r : ReportValue) : Type 0 where
   pub some_bit : 1 ≤ r.bits
-  pub few_bits : r.bits ≤ 8
+  pub few_bits : r.bits ≤ BIT_LIMIT
   pub some_budget : 1 ≤ r.budget
-  pub few_budget : r.budget ≤ 8388608
-  pub few_names : length r.names ≤ 64
+  pub few_budget : r.budget ≤ BUDGET_LIMIT
+  pub few_names : length r.names ≤ OPERATION_LIMIT
   pub names : AreNames r.names
   pub distinct : AreDistinct r.names
   pub some_scenario : 1 ≤ length r.scenarios
-  pub few_scenarios : length r.scenarios ≤ 64
+  pub few_scenarios : length r.scenarios ≤ SCENARIO_LIMIT
   pub one_name_each : length r.scenario_names ≡ length r.scenarios
   pub scenario_names : AreNames r.scenario_names
   pub distinct_scenarios : AreDistinct r.scenario_names
   pub scenarios : All (IsReported (length r.names)) r.scenarios
   pub inputs : r.encoding.gates.inputs ≡ r.bits
   pub one_code_each : length r.encoding.codes ≡ length r.scenarios
-  pub few_gates : length r.encoding.gates.gates < 65536
+  pub few_gates : length r.encoding.gates.gates < report_gate_limit
   pub encoding : IsEncoding (length r.names) r.encoding
   pub bound : IsBound (length r.encoding.gates.gates) r.bound
   pub netlist : IsNetlistOf r.encoding r.netlist

@@ -37,12 +37,15 @@ ref_text inputs (Signal n true) = codes "!" ++ signal_text inputs n
 abbrev pub blank_names : List (List ℕ) → List ℕ
 blank_names names = flat_map (λ name. 32 ∷ name) names
 
+-- how many bits a code has
 abbrev pub bits_row : ℕ → List ℕ
 bits_row bits = codes "bits " ++ decimal bits
 
+-- how many numbers a search may write
 abbrev pub budget_row : ℕ → List ℕ
 budget_row budget = codes "budget " ++ decimal budget
 
+-- the names of the operations
 abbrev pub operations_row : List (List ℕ) → List ℕ
 operations_row names = codes "operations" ++ blank_names names
 
@@ -70,29 +73,38 @@ arcs_row names sc = codes "arcs" ++ blank_names (map (arc_text names) sc.arcs)
 abbrev pub scenario_lines : ReportValue → ℕ → List (List ℕ)
 scenario_lines r s =
     let sc = slice_index_or r.scenarios s (record { count = 0; ops = set.empty; arcs = [] }) in
-    scenario_row r.bits (name_of r.scenario_names s) (slice_index r.encoding.codes s) ∷ has_row r.names sc ∷ arcs_row r.names sc ∷ []
+    scenario_row r.bits (name_of r.scenario_names s) (slice_index r.encoding.codes s)
+    ∷ has_row r.names sc ∷ arcs_row r.names sc ∷ []
 
+-- how many gates there are
 abbrev pub gates_row : ℕ → List ℕ
 gates_row count = codes "gates " ++ decimal count
 
 -- gate g: its two signals, and its values where they are 00, 01, 10 and 11
 abbrev pub gate_row : ℕ → ℕ → Gate → List ℕ
 gate_row inputs g gate =
-    codes "g" ++ (decimal g ++ (codes " " ++ (signal_text inputs gate.j ++ (codes " " ++ (signal_text inputs gate.k ++ (codes " " ++ digits_of 4 gate.table))))))
+    codes "g" ++ (decimal g ++ (codes " " ++
+    (signal_text inputs gate.j ++ (codes " " ++
+    (signal_text inputs gate.k ++ (codes " " ++ digits_of 4 gate.table))))))
 
+-- the lines of the gates, in their order
 abbrev pub gate_lines : ℕ → List Gate → List (List ℕ)
-gate_lines inputs gates = each_below (λ g. gate_row inputs g (slice_index_or gates g (record { j = 0; k = 0; table = 0 })) ∷ []) (length gates)
+gate_lines inputs gates =
+    each_below (λ g. gate_row inputs g (slice_index_or gates g (record { j = 0; k = 0; table = 0 })) ∷ [])
+    (length gates)
 
 -- the condition of an operation
 abbrev pub op_row : ℕ → List ℕ → Ref → List ℕ
 op_row inputs name ref = codes "op " ++ (name ++ (codes " " ++ ref_text inputs ref))
 
+-- the conditions of the operations, in their order
 abbrev pub op_lines : ℕ → List (List ℕ) → ConditionalGraph → List (List ℕ)
 op_lines inputs names graph = each_below (λ v. op_row inputs (name_of names v) (op_ref graph v) ∷ []) (length names)
 
 -- the condition of a pair
 abbrev pub arc_row : ℕ → List ℕ → List ℕ → Ref → List ℕ
-arc_row inputs first second ref = codes "arc " ++ (first ++ (codes " " ++ (second ++ (codes " " ++ ref_text inputs ref))))
+arc_row inputs first second ref =
+    codes "arc " ++ (first ++ (codes " " ++ (second ++ (codes " " ++ ref_text inputs ref))))
 
 -- a line, but none for the constant 0
 abbrev pub line_unless_zero : List ℕ → Ref → List (List ℕ)
@@ -102,7 +114,9 @@ line_unless_zero line (Signal n negated) = line ∷ []
 
 -- the conditions of the pairs (u, v) for the numbers v below a number; from an operation to itself the condition is 0
 abbrev pub arc_lines_from : ℕ → List (List ℕ) → ConditionalGraph → ℕ → ℕ → List (List ℕ)
-arc_lines_from inputs names graph u count = each_below (λ v. line_unless_zero (arc_row inputs (name_of names u) (name_of names v) (arc_ref graph u v)) (arc_ref graph u v)) count
+arc_lines_from inputs names graph u count =
+    each_below (λ v. line_unless_zero (arc_row inputs (name_of names u) (name_of names v) (arc_ref graph u v))
+    (arc_ref graph u v)) count
 
 -- the conditions of the pairs that aren't 0, by their first end and then their second
 abbrev pub arc_lines : ℕ → List (List ℕ) → ConditionalGraph → List (List ℕ)
@@ -112,6 +126,7 @@ arc_lines inputs names graph = each_below (λ u. arc_lines_from inputs names gra
 abbrev pub minimum_row : ℕ → List ℕ
 minimum_row h = codes "minimum " ++ decimal h
 
+-- the lines before the scenarios: the version, the bits, the budget and the operations
 abbrev pub head_lines : ReportValue → List (List ℕ)
 head_lines r = codes "cpog report 1" ∷ bits_row r.bits ∷ budget_row r.budget ∷ operations_row r.names ∷ []
 

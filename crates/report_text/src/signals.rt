@@ -1,8 +1,10 @@
 //! The texts of conditions and bits.
-ghost use Rattle.std.specs.Prelude.{◌≡◌, ◌++◌, ◌∷◌, [], ◌<◌, ◌≤◌, OnOk, string_bytes};
+ghost use Rattle.std.specs.Prelude.{◌≡◌, ◌∷◌, [], ◌<◌, ◌≤◌, OnOk};
 ghost use Rattle.cpog_defs.specs.Codes.{bit};
+ghost use Rattle.netlist_verilog.specs.Writes.{Writes};
 ghost use Rattle.report_text.specs.Rows.{digit, digits_of, ref_text};
 
+use cpog_base::BIT_LIMIT;
 use cpog_defs::types::Ref;
 use netlist_verilog::SignalName;
 use std::alloc::AllocError;
@@ -10,7 +12,7 @@ use std::fmt::Write;
 
 /// Writes a condition over so many inputs.
 pub(crate) fn put_ref(out: &mut String, inputs: u8, reference: Ref) -> Result<(), AllocError>
-    ensures { OnOk result (string_bytes out.new ≡ string_bytes out.old ++ ref_text inputs reference) }
+    ensures { OnOk result (Writes out.old out.new (ref_text inputs reference)) }
 {
     match reference {
         Ref::Const(false) => out.push_str("0"),
@@ -28,8 +30,8 @@ pub(crate) fn put_ref(out: &mut String, inputs: u8, reference: Ref) -> Result<()
 
 /// Writes the first bits of a word, that of weight 1 first.
 pub(crate) fn put_digits(out: &mut String, bits: u8, word: u8) -> Result<(), AllocError>
-    requires { bits ≤ 8 }
-    ensures { OnOk result (string_bytes out.new ≡ string_bytes out.old ++ digits_of bits word) }
+    requires { bits ≤ BIT_LIMIT }
+    ensures { OnOk result (Writes out.old out.new (digits_of bits word)) }
 {
     'bits: for i in 0..bits {
         out.push_str(digit_text(word, i))?;
@@ -38,7 +40,7 @@ pub(crate) fn put_digits(out: &mut String, bits: u8, word: u8) -> Result<(), All
 }
 
 fn digit_text(word: u8, i: u8) -> &'static str
-    requires { i < 8 }
+    requires { i < BIT_LIMIT }
     ensures { result.now ≡ digit (bit word i) ∷ [] }
 {
     if (word >> i) & 1 == 1 { "1" } else { "0" }

@@ -1,15 +1,16 @@
 //! The text of a report, line by line into one buffer.
-ghost use Rattle.std.specs.Prelude.{◌≡◌, ◌++◌, ◌∷◌, [], ◌<◌, ◌≤◌, length, map, if◌then◌else◌, OnOk, IfOk, string_bytes};
+ghost use Rattle.std.specs.Prelude.{◌≡◌, ◌∷◌, [], ◌<◌, ◌≤◌, length, map, if◌then◌else◌, OnOk, IfOk};
 ghost use Rattle.std.specs.FinSet as set;
 ghost use Rattle.cpog_defs.specs.Orders.{each_below};
 ghost use Rattle.cpog_defs.specs.Scenarios.{IsScenario};
 ghost use Rattle.line_text.specs.Lines.{text_of};
 ghost use Rattle.netlist_verilog.specs.Wires.{name_of};
+ghost use Rattle.netlist_verilog.specs.Writes.{Writes};
 ghost use Rattle.report_text.specs.Rows.{blank_names, scenario_row, has_row, arcs_row, scenario_lines, gates_row, gate_row, gate_lines, op_row, op_lines, arc_row, arc_lines_from, arc_lines, head_lines, end_lines, netlist_lines, report_lines, line_unless_zero};
 
 use crate::signals::{put_digits, put_ref};
 use crate::{Bound, Report};
-use cpog_base::{Memory, Names, OpId, OpSet, Scenario};
+use cpog_base::{BIT_LIMIT, Memory, Names, OpId, OpSet, Scenario};
 use cpog_defs::types::{Gate, Ref};
 use gate_core::ConditionalGraph;
 use netlist_verilog::{Module, SignalName, append_module};
@@ -38,7 +39,7 @@ pub fn write_report(alloc: Global, report: &Report) -> Result<Vec<u8>, Memory>
 }
 
 fn put_head(out: &mut String, report: &Report) -> Result<(), AllocError>
-    ensures { OnOk result (string_bytes out.new ≡ string_bytes out.old ++ text_of (head_lines report.now)) }
+    ensures { OnOk result (Writes out.old out.new (text_of (head_lines report.now))) }
 {
     write!(
         out,
@@ -53,7 +54,7 @@ fn put_head(out: &mut String, report: &Report) -> Result<(), AllocError>
 
 /// Writes each name behind a blank.
 fn put_names(out: &mut String, names: &Names) -> Result<(), AllocError>
-    ensures { OnOk result (string_bytes out.new ≡ string_bytes out.old ++ blank_names names.now) }
+    ensures { OnOk result (Writes out.old out.new (blank_names names.now)) }
 {
     'names: for v in 0..names.len() {
         write!(out, " {}", names.get(v))?;
@@ -62,7 +63,7 @@ fn put_names(out: &mut String, names: &Names) -> Result<(), AllocError>
 }
 
 fn put_scenarios(out: &mut String, report: &Report) -> Result<(), AllocError>
-    ensures { OnOk result (string_bytes out.new ≡ string_bytes out.old ++ text_of (each_below (scenario_lines report.now) (length report.now.scenarios))) }
+    ensures { OnOk result (Writes out.old out.new (text_of (each_below (scenario_lines report.now) (length report.now.scenarios)))) }
 {
     'scenarios: for s in 0..report.scenarios().len() {
         put_scenario(out, report, s)?;
@@ -72,7 +73,7 @@ fn put_scenarios(out: &mut String, report: &Report) -> Result<(), AllocError>
 
 fn put_scenario(out: &mut String, report: &Report, s: usize) -> Result<(), AllocError>
     requires { s < length report.now.scenarios }
-    ensures { OnOk result (string_bytes out.new ≡ string_bytes out.old ++ text_of (scenario_lines report.now s)) }
+    ensures { OnOk result (Writes out.old out.new (text_of (scenario_lines report.now s))) }
 {
     let bits = report.bits();
     let name = scenario_name(report, s);
@@ -94,8 +95,8 @@ fn scenario_name(report: &Report, s: usize) -> &str
 }
 
 fn put_code(out: &mut String, name: &str, bits: u8, code: u8) -> Result<(), AllocError>
-    requires { bits ≤ 8 }
-    ensures { OnOk result (string_bytes out.new ≡ string_bytes out.old ++ text_of (scenario_row bits name.now code ∷ [])) }
+    requires { bits ≤ BIT_LIMIT }
+    ensures { OnOk result (Writes out.old out.new (text_of (scenario_row bits name.now code ∷ []))) }
 {
     write!(out, "scenario {name} ")?;
     put_digits(out, bits, code)?;
@@ -105,7 +106,7 @@ fn put_code(out: &mut String, name: &str, bits: u8, code: u8) -> Result<(), Allo
 
 fn put_members(out: &mut String, names: &Names, scenario: &Scenario) -> Result<(), AllocError>
     requires { scenario.now.count ≡ length names.now }
-    ensures { OnOk result (string_bytes out.new ≡ string_bytes out.old ++ text_of (has_row names.now scenario.now ∷ [])) }
+    ensures { OnOk result (Writes out.old out.new (text_of (has_row names.now scenario.now ∷ []))) }
 {
     out.push_str("has")?;
     let members = scenario.ops();
@@ -119,7 +120,7 @@ fn put_members(out: &mut String, names: &Names, scenario: &Scenario) -> Result<(
 /// Writes the operation's name behind a blank, where it is a member.
 fn put_member(out: &mut String, names: &Names, members: OpSet, v: OpId) -> Result<(), AllocError>
     requires { v.0 < length names.now }
-    ensures { OnOk result (string_bytes out.new ≡ string_bytes out.old ++ blank_names (map (name_of names.now) (if set.contains members v.0 then v.0 ∷ [] else []))) }
+    ensures { OnOk result (Writes out.old out.new (blank_names (map (name_of names.now) (if set.contains members v.0 then v.0 ∷ [] else [])))) }
 {
     if members.contains(v) {
         write!(out, " {}", names.get(u32::from(v.0)))?;
@@ -130,7 +131,7 @@ fn put_member(out: &mut String, names: &Names, members: OpSet, v: OpId) -> Resul
 fn put_covers(out: &mut String, names: &Names, scenario: &Scenario) -> Result<(), AllocError>
     requires count { scenario.now.count ≡ length names.now }
     requires scenario { IsScenario scenario.now }
-    ensures { OnOk result (string_bytes out.new ≡ string_bytes out.old ++ text_of (arcs_row names.now scenario.now ∷ [])) }
+    ensures { OnOk result (Writes out.old out.new (text_of (arcs_row names.now scenario.now ∷ []))) }
 {
     out.push_str("arcs")?;
     'arcs: for arc in scenario.arcs() {
@@ -143,7 +144,7 @@ fn put_covers(out: &mut String, names: &Names, scenario: &Scenario) -> Result<()
 }
 
 fn put_gates(out: &mut String, bits: u8, gates: &[Gate]) -> Result<(), AllocError>
-    ensures { OnOk result (string_bytes out.new ≡ string_bytes out.old ++ text_of (gates_row (length gates.now) ∷ gate_lines bits gates.now)) }
+    ensures { OnOk result (Writes out.old out.new (text_of (gates_row (length gates.now) ∷ gate_lines bits gates.now))) }
 {
     let count = gates.len();
     write!(out, "gates {count}\n")?;
@@ -154,7 +155,7 @@ fn put_gates(out: &mut String, bits: u8, gates: &[Gate]) -> Result<(), AllocErro
 }
 
 fn put_gate(out: &mut String, bits: u8, g: usize, gate: &Gate) -> Result<(), AllocError>
-    ensures { OnOk result (string_bytes out.new ≡ string_bytes out.old ++ text_of (gate_row bits g gate.now ∷ [])) }
+    ensures { OnOk result (Writes out.old out.new (text_of (gate_row bits g gate.now ∷ []))) }
 {
     let j = SignalName {
         inputs: bits,
@@ -177,7 +178,7 @@ fn put_ops(
     graph: &ConditionalGraph,
 ) -> Result<(), AllocError>
     requires { length graph.now.ops ≡ length names.now }
-    ensures { OnOk result (string_bytes out.new ≡ string_bytes out.old ++ text_of (op_lines bits names.now graph.now)) }
+    ensures { OnOk result (Writes out.old out.new (text_of (op_lines bits names.now graph.now))) }
 {
     'ops: for v in 0..graph.count() {
         put_op(out, bits, names.get(u32::from(v)), graph.op(OpId(v)))?;
@@ -186,7 +187,7 @@ fn put_ops(
 }
 
 fn put_op(out: &mut String, bits: u8, name: &str, condition: Ref) -> Result<(), AllocError>
-    ensures { OnOk result (string_bytes out.new ≡ string_bytes out.old ++ text_of (op_row bits name.now condition ∷ [])) }
+    ensures { OnOk result (Writes out.old out.new (text_of (op_row bits name.now condition ∷ []))) }
 {
     write!(out, "op {name} ")?;
     put_ref(out, bits, condition)?;
@@ -201,7 +202,7 @@ fn put_arcs(
     graph: &ConditionalGraph,
 ) -> Result<(), AllocError>
     requires { length graph.now.ops ≡ length names.now }
-    ensures { OnOk result (string_bytes out.new ≡ string_bytes out.old ++ text_of (arc_lines bits names.now graph.now)) }
+    ensures { OnOk result (Writes out.old out.new (text_of (arc_lines bits names.now graph.now))) }
 {
     'firsts: for u in 0..graph.count() {
         put_arcs_from(out, bits, names, graph, OpId(u))?;
@@ -218,7 +219,7 @@ fn put_arcs_from(
 ) -> Result<(), AllocError>
     requires count { length graph.now.ops ≡ length names.now }
     requires within { u.0 < length names.now }
-    ensures { OnOk result (string_bytes out.new ≡ string_bytes out.old ++ text_of (arc_lines_from bits names.now graph.now u.0 (length names.now))) }
+    ensures { OnOk result (Writes out.old out.new (text_of (arc_lines_from bits names.now graph.now u.0 (length names.now)))) }
 {
     let first = names.get(u32::from(u.0));
     'seconds: for v in 0..graph.count() {
@@ -240,7 +241,7 @@ fn put_arc(
     second: &str,
     condition: Ref,
 ) -> Result<(), AllocError>
-    ensures { OnOk result (string_bytes out.new ≡ string_bytes out.old ++ text_of (line_unless_zero (arc_row bits first.now second.now condition) condition)) }
+    ensures { OnOk result (Writes out.old out.new (text_of (line_unless_zero (arc_row bits first.now second.now condition) condition))) }
 {
     if condition == Ref::Const(false) {
         return Ok(());
@@ -252,7 +253,7 @@ fn put_arc(
 }
 
 fn put_end(out: &mut String, bound: Bound) -> Result<(), AllocError>
-    ensures { OnOk result (string_bytes out.new ≡ string_bytes out.old ++ text_of (end_lines bound)) }
+    ensures { OnOk result (Writes out.old out.new (text_of (end_lines bound))) }
 {
     match bound {
         Bound::Minimum(count) => write!(out, "minimum {count}\nevidence zero\nopen none\n"),
@@ -262,7 +263,7 @@ fn put_end(out: &mut String, bound: Bound) -> Result<(), AllocError>
 
 /// This text with the line `netlist` and the module behind it.
 fn append_netlist(mut text: String, design: &Module) -> Result<String, Memory>
-    ensures { IfOk result (λ whole. string_bytes whole ≡ string_bytes text ++ text_of (netlist_lines design.now)) }
+    ensures { IfOk result (λ whole. Writes text whole (text_of (netlist_lines design.now))) }
 {
     text.push_str("netlist\n")?;
     append_module(text, design)

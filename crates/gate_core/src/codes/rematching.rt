@@ -1,9 +1,10 @@
-//! One scenario more for a list of distinct words, or that there is none.
-ghost use Rattle.std.specs.Prelude.{◌≡◌, ◌≢◌, ◌↔◌, ℕ, List, Bool, replicate, slice_set, ◌<◌, ◌≤◌, false, true, IsTrue, IfSome, None, length};
-ghost use Rattle.gate_core.specs.Matching.{IsMatching, IsMatchingBut, IsOwner, IsOwned, IsBlocked, IsClosed, IsReach, IsTried, Grows, is_in};
+//! One scenario more for a list of distinct words, or that there is none. Lists of words and of marks have a place for each of
+//! `SCENARIO_LIMIT` scenarios, which is 64.
+ghost use Rattle.std.specs.Prelude.{◌≡◌, ◌≢◌, ◌↔◌, ℕ, List, Bool, replicate, slice_set, ◌^◌, ◌<◌, ◌≤◌, false, true, IsTrue, IfSome, None, length};
+ghost use Rattle.gate_core.specs.Matching.{IsMatching, IsMatchingBut, IsOwner, IsOwned, IsBlocked, IsHallViolator, IsReach, IsTried, Grows, is_in};
 ghost use Rattle.gate_core.specs.Patterns.{MayHave};
 
-use cpog_base::Pattern;
+use cpog_base::{BIT_LIMIT, Pattern, SCENARIO_LIMIT};
 
 /// The given bits, the words that are fixed, how many words there are, and how many scenarios.
 #[derive(Drop)]
@@ -29,7 +30,7 @@ impl Task<'_> {
 
     /// The first of the words that a scenario may have, and the end of them: a fixed one is the only one.
     fn range(&self, s: usize) -> (u16, u16)
-        requires { self.now.top ≤ 256 }
+        requires { self.now.top ≤ 2 ^ BIT_LIMIT }
         ensures end { result.1 ≤ self.now.top }
         ensures within { (word : ℕ) → word < self.now.top → MayHave self.now.given.now self.now.fixed.now s word → (result.0 ≤ word) × (word < result.1) }
     {
@@ -79,9 +80,9 @@ pub(crate) struct Reach {
 impl Reach {
     /// Only the scenario without a word is reached.
     fn new(words: &[u8; 64], hole: usize) -> Reach
-        requires { hole < 64 }
-        ensures lists { (empty : List (List ℕ)) × (empty ≡ replicate 64 (replicate 64 0)) × (result.lists ≡ slice_set empty hole words.now) }
-        ensures reached { (marks : List Bool) × (marks ≡ replicate 64 false) × (result.reached ≡ slice_set marks hole true) }
+        requires { hole < SCENARIO_LIMIT }
+        ensures lists { (empty : List (List ℕ)) × (empty ≡ replicate SCENARIO_LIMIT (replicate SCENARIO_LIMIT 0)) × (result.lists ≡ slice_set empty hole words.now) }
+        ensures reached { (marks : List Bool) × (marks ≡ replicate SCENARIO_LIMIT false) × (result.reached ≡ slice_set marks hole true) }
     {
         let mut lists = [[0; 64]; 64];
         lists[hole] = *words;
@@ -99,7 +100,7 @@ impl Reach {
         i: usize,
         word: u8,
     ) -> Option<[u8; 64]>
-        requires small { task.now.count ≤ 64 }
+        requires small { task.now.count ≤ SCENARIO_LIMIT }
         requires size { task.now.count ≤ length words.now }
         requires reach { IsReach (MayHave task.now.given.now task.now.fixed.now) task.now.top task.now.count hole words.now self.old.lists self.old.reached }
         requires words { IsMatchingBut (MayHave task.now.given.now task.now.fixed.now) task.now.top task.now.count hole words.now }
@@ -132,9 +133,9 @@ impl Reach {
 
     /// Tries each word that a reached scenario may have.
     fn try_words(&mut self, task: &Task, words: &[u8], hole: usize, i: usize) -> Option<[u8; 64]>
-        requires small { task.now.count ≤ 64 }
+        requires small { task.now.count ≤ SCENARIO_LIMIT }
         requires given { task.now.count ≤ length task.now.given.now }
-        requires top { task.now.top ≤ 256 }
+        requires top { task.now.top ≤ 2 ^ BIT_LIMIT }
         requires size { task.now.count ≤ length words.now }
         requires reach { IsReach (MayHave task.now.given.now task.now.fixed.now) task.now.top task.now.count hole words.now self.old.lists self.old.reached }
         requires words { IsMatchingBut (MayHave task.now.given.now task.now.fixed.now) task.now.top task.now.count hole words.now }
@@ -165,13 +166,13 @@ pub(crate) fn rematch(
     hole: usize,
     marks: &mut [bool; 64],
 ) -> Option<[u8; 64]>
-    requires small { task.now.count ≤ 64 }
+    requires small { task.now.count ≤ SCENARIO_LIMIT }
     requires given { task.now.count ≤ length task.now.given.now }
-    requires top { task.now.top ≤ 256 }
+    requires top { task.now.top ≤ 2 ^ BIT_LIMIT }
     requires words { IsMatchingBut (MayHave task.now.given.now task.now.fixed.now) task.now.top task.now.count hole words.now }
     ensures all { IfSome result (λ all. IsMatching (MayHave task.now.given.now task.now.fixed.now) task.now.top task.now.count all) }
     ensures none { result ≡ None → (other : List ℕ) → ¬ IsMatching (MayHave task.now.given.now task.now.fixed.now) task.now.top task.now.count other }
-    ensures closed { result ≡ None → IsClosed (MayHave task.now.given.now task.now.fixed.now) task.now.top task.now.count hole words.now (is_in marks.new) }
+    ensures closed { result ≡ None → IsHallViolator (MayHave task.now.given.now task.now.fixed.now) task.now.top task.now.count hole words.now (is_in marks.new) }
 {
     let mut reach = Reach::new(words, hole);
     let mut tried = [false; 64];
@@ -193,7 +194,7 @@ pub(crate) fn is_blocked(
     word: u8,
     marks: &[bool; 64],
 ) -> bool
-    requires { count ≤ 64 }
+    requires { count ≤ SCENARIO_LIMIT }
     ensures { IsTrue result → IsBlocked count hole words.now marks.now word }
 {
     match owner(words, count, hole, word) {

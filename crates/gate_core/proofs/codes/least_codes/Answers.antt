@@ -17,7 +17,9 @@ pub returns-in-Ok-to_vec-clause-least : goal.returns-in-Ok-to_vec-clause-least
 returns-in-Ok-to_vec-clause-least c =
     let ended : c.loop-s.s ≡ length c.args.given.now = omega arith in
     subst (λ top. AreLeast c.args.given.now top c.in-Ok-to_vec.codes.items) (top_is c.args.bits c.requires.bits)
-    (finished c.args.given.now (1 * 2 ^ c.args.bits % 65536) (length c.args.given.now) c.loop-s.fixed c.loop-s.words c.in-Ok-to_vec.codes.items refl (omega (arith, c.requires.few, c.loop-s-test.array_long))
+    (finished c.args.given.now (1 * 2 ^ c.args.bits % 65536)
+    (length c.args.given.now) c.loop-s.fixed c.loop-s.words c.in-Ok-to_vec.codes.items refl
+    (omega (arith, c.requires.few, c.loop-s-test.array_long))
     (subst (λ s. IsMatching (MayHave c.args.given.now (take s c.loop-s.fixed)) (1 * 2 ^ c.args.bits % 65536) (length c.args.given.now) c.loop-s.words) ended c.loop-s.invariant.words)
     (λ other k l. c.loop-s.invariant.least other k (omega (arith, l, ended))) (c.in-Ok-to_vec.ensures.items_if_clones_equal (λ x y same. same)))
 

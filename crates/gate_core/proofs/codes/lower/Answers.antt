@@ -20,22 +20,60 @@ loop-word-init c = record {
 }
 
 pub rematch-requires-clause-words : goal.rematch-requires-clause-words
-rematch-requires-clause-words c = but_s c.args.given.now c.args.top (length c.args.given.now) c.args.fixed.now c.loop-word.fixed c.args.words.now c.args.s c.loop-word.word (omega (arith, c.told-fixed, c.requires.few, c.requires.within)) (omega (arith, c.told-fixed, c.requires.few, c.requires.within)) c.requires.within c.loop-word.invariant.same c.requires.words
+rematch-requires-clause-words c =
+    but_s c.args.given.now c.args.top (length c.args.given.now) c.args.fixed.now c.loop-word.fixed c.args.words.now
+    c.args.s c.loop-word.word (omega (arith, c.told-fixed, c.requires.few, c.requires.within))
+    (omega (
+      arith,
+      c.told-fixed,
+      c.requires.few,
+      c.requires.within,
+    )) c.requires.within c.loop-word.invariant.same c.requires.words
 
 pub loop-word-preserved : goal.loop-word-preserved
 loop-word-preserved c = elim c.if-not-is_blocked.branch [
   | then-not-is_blocked+in_default w ↦ record {
     same = ap (take c.args.s) w.fixed-is ∙ take-set c.loop-word.fixed c.args.s c.loop-word.word ∙ c.loop-word.invariant.same;
-    tried = word_more c.args.given.now c.args.top (length c.args.given.now) c.args.fixed.now c.loop-word.fixed c.args.s c.loop-word.word (omega (arith, c.told-fixed)) c.requires.within c.loop-word.invariant.same
+    tried =
+        word_more c.args.given.now c.args.top (length c.args.given.now) c.args.fixed.now c.loop-word.fixed c.args.s
+        c.loop-word.word (omega (arith, c.told-fixed)) c.requires.within c.loop-word.invariant.same
         c.loop-word.invariant.tried (w.in_default.ensures.none refl);
     blocked = subst (λ (ms : List Bool). IsTight (MayHave c.args.given.now (take c.args.s c.args.fixed.now)) c.args.top (length c.args.given.now) c.args.s c.args.words.now ms) (sym w.marks-is)
-        (tight_after c.args.given.now c.args.top (length c.args.given.now) c.args.fixed.now c.loop-word.fixed c.args.words.now c.args.s c.loop-word.word (omega (arith, c.told-fixed, c.requires.few, c.requires.within)) (omega (arith, c.told-fixed, c.requires.few, c.requires.within)) c.requires.within c.loop-word.invariant.same _ (w.in_default.ensures.closed refl));
+        (tight_after c.args.given.now c.args.top
+        (length c.args.given.now) c.args.fixed.now c.loop-word.fixed c.args.words.now c.args.s c.loop-word.word
+        (omega (arith, c.told-fixed, c.requires.few, c.requires.within))
+        (omega (
+          arith,
+          c.told-fixed,
+          c.requires.few,
+          c.requires.within,
+        )) c.requires.within c.loop-word.invariant.same _ (w.in_default.ensures.closed refl));
   }
   | else-not-is_blocked w ↦ record {
     same = ap (take c.args.s) w.fixed-is ∙ c.loop-word.invariant.same;
-    tried = word_more c.args.given.now c.args.top (length c.args.given.now) c.args.fixed.now c.loop-word.fixed c.args.s c.loop-word.word (omega (arith, c.if-not-is_blocked.array_long, ap length w.fixed-is, c.requires.few, c.requires.within)) c.requires.within c.loop-word.invariant.same
+    tried =
+        word_more c.args.given.now c.args.top (length c.args.given.now) c.args.fixed.now c.loop-word.fixed c.args.s
+        c.loop-word.word (omega (
+          arith,
+          c.if-not-is_blocked.array_long,
+          ap length w.fixed-is,
+          c.requires.few,
+          c.requires.within,
+        )) c.requires.within c.loop-word.invariant.same
         c.loop-word.invariant.tried
-        (word_blocked c.args.given.now c.args.top (length c.args.given.now) c.args.fixed.now c.loop-word.fixed c.args.words.now c.args.s c.loop-word.word (omega (arith, c.if-not-is_blocked.array_long, ap length w.fixed-is, c.requires.few, c.requires.within)) (omega (arith, c.told-fixed, c.requires.few, c.requires.within)) c.requires.within c.loop-word.invariant.same c.loop-word.marks c.requires.few c.told-words c.requires.words c.loop-word.invariant.blocked (c.is_blocked.ensures w.if-not-is_blocked.false));
-    blocked = subst (λ (ms : List Bool). IsTight (MayHave c.args.given.now (take c.args.s c.args.fixed.now)) c.args.top (length c.args.given.now) c.args.s c.args.words.now ms) (sym w.marks-is) c.loop-word.invariant.blocked;
+        (word_blocked c.args.given.now c.args.top
+        (length c.args.given.now) c.args.fixed.now c.loop-word.fixed c.args.words.now c.args.s c.loop-word.word
+        (omega (arith, c.if-not-is_blocked.array_long, ap length w.fixed-is, c.requires.few, c.requires.within))
+        (omega (
+          arith,
+          c.told-fixed,
+          c.requires.few,
+          c.requires.within,
+        )) c.requires.within c.loop-word.invariant.same c.loop-word.marks c.requires.few
+        c.told-words c.requires.words c.loop-word.invariant.blocked
+        (c.is_blocked.ensures w.if-not-is_blocked.false));
+    blocked =
+        subst (λ (ms : List Bool). IsTight (MayHave c.args.given.now (take c.args.s c.args.fixed.now)) c.args.top
+        (length c.args.given.now) c.args.s c.args.words.now ms) (sym w.marks-is) c.loop-word.invariant.blocked;
   }
 ]

@@ -25,5 +25,8 @@ sum_of_minterms-requires-clause-differ c =
 
 pub returns-clause-minterms : goal.returns-clause-minterms
 returns-clause-minterms c =
-    let e = ap (sum_of_minterms c.args.signals.now.list) (sym (c.as_slice.ensures.value ∙ c.in_ok-codes.ensures.codes ∙ ap (λ codes. smaller_codes codes c.args.column.now) c.codes.ensures)) ∙ c.in_ok-number.ensures.sum in
+    let e =
+    ap (sum_of_minterms c.args.signals.now.list)
+    (sym (c.as_slice.ensures.value ∙ c.in_ok-codes.ensures.codes
+    ∙ ap (λ codes. smaller_codes codes c.args.column.now) c.codes.ensures)) ∙ c.in_ok-number.ensures.sum in
     (sym (ap (λ r. r.gates) e), ap₂ (λ n b. Signal n b) (sym (ap (λ r. r.signal) e)) c.in_ok-codes.ensures.zeros)

@@ -16,7 +16,9 @@ pub loop-v-preserved : goal.loop-v-preserved
 loop-v-preserved c =
     let f : ℕ → Bool = request_enabled c.args.netlist.now c.args.values.now c.args.acks.now in
     λ a. elim c.if-is_enabled.branch [
-      | then-is_enabled w ↦ ap (λ s. set.contains s a) (w.enabled-is ∙ w.insert.ensures) ∙ insert_next c.loop-v.enabled f c.loop-v.v c.loop-v.invariant (sym c.is_enabled.ensures ∙ w.if-is_enabled.true) a
+      | then-is_enabled w ↦ ap (λ s. set.contains s a) (w.enabled-is ∙ w.insert.ensures)
+          ∙ insert_next c.loop-v.enabled f c.loop-v.v c.loop-v.invariant (sym c.is_enabled.ensures
+          ∙ w.if-is_enabled.true) a
       | else-is_enabled w ↦ ap (λ s. set.contains s a) w.enabled-is ∙ leave_next c.loop-v.enabled f c.loop-v.v c.loop-v.invariant (sym c.is_enabled.ensures ∙ w.if-is_enabled.false) a
     ]
 

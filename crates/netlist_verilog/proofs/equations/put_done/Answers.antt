@@ -7,4 +7,7 @@ use Rattle.netlist_verilog.proofs.equations.put_done.Goals as goal
 
 pub returns : goal.returns
 returns c =
-    each_written c.args.design.now Done (Read Go) (λ _. true) through_formula (length c.args.design.now.netlist.conditions) _ _ _ _ (λ text. refl) c.in_ok-push_str.ensures.bytes c.in_ok-put_each_through.ensures c.in_ok-push_str-2.ensures.bytes
+    each_written c.args.design.now Done (Read Go) (λ _. true) through_formula
+    (length c.args.design.now.netlist.conditions) _ _ _ _
+    (λ text. refl) c.in_ok-push_str.ensures.bytes c.in_ok-put_each_through.ensures
+    c.in_ok-push_str-2.ensures.bytes

@@ -1,9 +1,10 @@
-use Rattle.std.proofs.Common.{◌≡◌, ◌++◌, true, string_bytes}
+use Rattle.std.proofs.Common.{true}
 use Rattle.cpog_defs.specs.Orders.{each_below}
 use Rattle.netlist_verilog.specs.Wires.{Acknowledge}
 use Rattle.netlist_verilog.specs.Formulas.{Not, Read}
 use Rattle.netlist_verilog.specs.Rows.{and_text}
+use Rattle.netlist_verilog.specs.Writes.{Writes}
 use Rattle.netlist_verilog.proofs.equations.put_each_unacknowledged.Given as goal
 
 abbrev pub invariant-operations : goal.invariant-operations
-invariant-operations l = string_bytes l.out ≡ string_bytes l.initial.out ++ each_below (λ v. and_text l.design true (Not (Read (Acknowledge v)))) l.v
+invariant-operations l = Writes l.initial.out l.out (each_below (λ v. and_text l.design true (Not (Read (Acknowledge v)))) l.v)

@@ -11,7 +11,7 @@ use Rattle.pg_algebra.specs.Graphs.{overlay, sequence, when, overlay_all, sequen
 use Rattle.pg_algebra.specs.Conditions.{valuation, value, params_of}
 use Rattle.pg_algebra.proofs.TreeLaws.{graph_of-When, graph_of-Overlay, graph_of-Sequence}
 use Rattle.pg_algebra.specs.declared.expr.Expr.TheViews.{sized-When, sized-Overlay, sized-Sequence, size_is-ExprList}
-use Rattle.pg_normal.specs.Known.{IsKnown, IsSquare, entry, graph_of_rows, graph_or_empty, graph_stated, graphs_known, tables_at}
+use Rattle.pg_normal.specs.Known.{IsKnown, HasFullRows, entry, graph_of_rows, graph_or_empty, graph_stated, graphs_known, tables_at}
 use Rattle.pg_normal.specs.Sound.{is_sound}
 use Rattle.pg_normal.proofs.RowLemmas.{zero_row, bit-none}
 use Rattle.pg_normal.proofs.MemberLemmas.{under_parts, sound-Overlay, sound-Sequence}
@@ -20,16 +20,43 @@ use Rattle.pg_normal.proofs.UnitedLemmas.{united_grows, both_held, joined_grows}
 use Rattle.pg_normal.proofs.adding.+add.Goals as goal
 
 pub add-unwrap-table-requires : goal.add-unwrap-table-requires
-add-unwrap-table-requires t c = c.table_of.ensures.known ∙ ap (λ x. list_all (has_text c.args.known.now.params) (params_of x)) c.get.ensures ∙ (under_parts (length c.args.arcs.now) c.args.known.now.params c.args.expr.now c.in-When.cond c.in-When.inner c.in-When.is c.requires.sound).0
+add-unwrap-table-requires t c = c.table_of.ensures.known
+    ∙ ap (λ x. list_all (has_text c.args.known.now.params) (params_of x)) c.get.ensures
+    ∙ (under_parts (length c.args.arcs.now) c.args.known.now.params c.args.expr.now c.in-When.cond c.in-When.inner
+    c.in-When.is c.requires.sound).0
 
 pub add-add-requires-in-When : goal.add-add-requires-in-When
-add-add-requires-in-When t c = (search (rules, sized-When), (ap (is_sound (length c.args.arcs.now) c.args.known.now.params) c.get-in-When.ensures ∙ (under_parts (length c.args.arcs.now) c.args.known.now.params c.args.expr.now c.in-When.cond c.in-When.inner c.in-When.is c.requires.sound).1, c.requires.rows))
+add-add-requires-in-When t c = (
+  search (rules, sized-When),
+  (
+    ap (is_sound (length c.args.arcs.now) c.args.known.now.params) c.get-in-When.ensures
+        ∙ (under_parts (length c.args.arcs.now) c.args.known.now.params c.args.expr.now c.in-When.cond c.in-When.inner
+        c.in-When.is c.requires.sound).1,
+    c.requires.rows,
+  ),
+)
 
 pub add-add_overlay-requires : goal.add-add_overlay-requires
-add-add_overlay-requires t c = (search (rules, sized-Overlay, size_is-ExprList), (rw c.members.ensures (subst (λ b. IsTrue b) (ap (is_sound (length c.args.arcs.now) c.args.known.now.params) c.in-Overlay.is ∙ sound-Overlay (length c.args.arcs.now) c.args.known.now.params c.in-Overlay.list.members) c.requires.sound), c.requires.rows))
+add-add_overlay-requires t c = (
+  search (rules, sized-Overlay, size_is-ExprList),
+  (
+    rw c.members.ensures (subst (λ b. IsTrue b)
+        (ap (is_sound (length c.args.arcs.now) c.args.known.now.params) c.in-Overlay.is
+        ∙ sound-Overlay (length c.args.arcs.now) c.args.known.now.params c.in-Overlay.list.members) c.requires.sound),
+    c.requires.rows,
+  ),
+)
 
 pub add-add_sequence-requires : goal.add-add_sequence-requires
-add-add_sequence-requires t c = (search (rules, sized-Sequence, size_is-ExprList), (rw c.members-in-Sequence.ensures (subst (λ b. IsTrue b) (ap (is_sound (length c.args.arcs.now) c.args.known.now.params) c.in-Sequence.is ∙ sound-Sequence (length c.args.arcs.now) c.args.known.now.params c.in-Sequence.list.members) c.requires.sound), c.requires.rows))
+add-add_sequence-requires t c = (
+  search (rules, sized-Sequence, size_is-ExprList),
+  (
+    rw c.members-in-Sequence.ensures (subst (λ b. IsTrue b)
+        (ap (is_sound (length c.args.arcs.now) c.args.known.now.params) c.in-Sequence.is
+        ∙ sound-Sequence (length c.args.arcs.now) c.args.known.now.params c.in-Sequence.list.members) c.requires.sound),
+    c.requires.rows,
+  ),
+)
 
 pub add-returns-in-Op-clause-rows : goal.add-returns-in-Op-clause-rows
 add-returns-in-Op-clause-rows t c = record {
@@ -62,8 +89,12 @@ add-returns-in-When-clause-graph t c = OnOk-map c.add-in-When.result _ _ (λ inn
     inner n h
     ∙ ap (λ x. overlay (graph_of_rows c.args.vertices.now c.args.arcs.now n) x) (
     ap (λ e. when (bit c.and-both.result.0 n) (graph_stated c.args.known.now n e)) c.get-in-When.ensures
-    ∙ when_done (graphs_known c.args.known.now n) (valuation c.args.known.now.params n) c.in-When.cond c.in-When.inner (bit c.args.guard.0 n) (bit c.unwrap-table.result.0 n) (bit c.and-both.result.0 n) (c.and-both.ensures n h)
-    (table_in (λ x. (m : ℕ) → m < 64 → bit x.0 m ≡ value (valuation c.args.known.now.params m) c.get.result.now) c.table_of.result c.unwrap-table.result c.unwrap-table.ensures c.table_of.ensures.table n h ∙ ap (value (valuation c.args.known.now.params n)) c.get.ensures)
+    ∙ when_done (graphs_known c.args.known.now n) (valuation c.args.known.now.params n) c.in-When.cond c.in-When.inner
+    (bit c.args.guard.0 n) (bit c.unwrap-table.result.0 n) (bit c.and-both.result.0 n) (c.and-both.ensures n h)
+    (table_in (λ x. (m : ℕ) → m < 64 → bit x.0 m ≡ value
+    (valuation c.args.known.now.params m) c.get.result.now) c.table_of.result c.unwrap-table.result
+    c.unwrap-table.ensures c.table_of.ensures.table n h
+    ∙ ap (value (valuation c.args.known.now.params n)) c.get.ensures)
     ∙ ap (when (bit c.args.guard.0 n)) (sym (graph_of-When (graphs_known c.args.known.now n) (valuation c.args.known.now.params n) c.in-When.cond c.in-When.inner))
     ∙ ap (λ e. when (bit c.args.guard.0 n) (graph_stated c.args.known.now n e)) (sym c.in-When.is))) c.add-in-When.ensures.graph
 
@@ -78,7 +109,9 @@ add_overlay-over-preserved t c = record {
 
 pub add_overlay-returns-clause-graph : goal.add_overlay-returns-clause-graph
 add_overlay-returns-clause-graph t c n h =
-    over_done (graphs_known c.args.known.now n) (valuation c.args.known.now.params n) (bit c.args.guard.0 n) c.args.members.now c.over.member-index (graph_of_rows c.over.vertices c.over.arcs n) _ c.over-test.false (c.over.invariant.graph n h)
+    over_done (graphs_known c.args.known.now n) (valuation c.args.known.now.params n)
+    (bit c.args.guard.0 n) c.args.members.now c.over.member-index
+    (graph_of_rows c.over.vertices c.over.arcs n) _ c.over-test.false (c.over.invariant.graph n h)
 
 pub add_sequence-line-init : goal.add_sequence-line-init
 add_sequence-line-init t c = record {
@@ -109,7 +142,7 @@ add_sequence-line-preserved t c = record {
   rows = record {
     over = subst (λ k. IsKnown k c.args.known.now) (sym arcs) c.in_ok-add.ensures.rows.over;
     width = c.take_up.ensures.len ∙ c.line.invariant.rows.width ∙ sym (arcs ∙ c.add.auto.arcs);
-    square = subst (λ k. IsSquare k c.join_once.new.arcs) (sym arcs) c.join_once.ensures.square;
+    square = subst (λ k. HasFullRows k c.join_once.new.arcs) (sym arcs) c.join_once.ensures.square;
     there = united_grows c.args.known.now c.add.new.united c.add.new.arcs c.join_once.new.arcs (λ u v n h held. both_held _ _ _ (c.join_once.ensures.each u v n h) held) c.in_ok-add.ensures.rows.there;
   };
   joined = c.take_up.ensures.joined c.join_once.new.arcs c.join_once.ensures.joined;
@@ -133,19 +166,27 @@ pub add_sequence-returns-clause-graph : goal.add_sequence-returns-clause-graph
 add_sequence-returns-clause-graph t c n h =
     line_ends c.args.vertices.now c.line.before c.unite.new.self c.line.arcs c.args.arcs.now n
     (when (bit c.args.guard.0 n) (sequence_all (map (graph_stated c.args.known.now n) c.args.members.now)))
-    (line_done (graphs_known c.args.known.now n) (valuation c.args.known.now.params n) (bit c.args.guard.0 n) c.args.members.now c.line.member-index (graph_of_rows c.line.before c.line.arcs n) _ c.line-test.false (c.line.invariant.graph n h))
+    (line_done (graphs_known c.args.known.now n) (valuation c.args.known.now.params n)
+    (bit c.args.guard.0 n) c.args.members.now c.line.member-index
+    (graph_of_rows c.line.before c.line.arcs n) _ c.line-test.false (c.line.invariant.graph n h))
     (λ v. c.unite.ensures.each v n ∙ ap (λ b. bit (slice_index c.args.vertices.now v) n || (b && bit (slice_index c.line.before v) n)) (c.constant.ensures n h))
 
 pub add-returns-in-Overlay-clause-graph : goal.add-returns-in-Overlay-clause-graph
 add-returns-in-Overlay-clause-graph t c = OnOk-map c.add_overlay.result _ _ (λ graph n h.
     graph n h
     ∙ ap (λ es. overlay (graph_of_rows c.args.vertices.now c.args.arcs.now n) (when (bit c.args.guard.0 n) (overlay_all (map (graph_stated c.args.known.now n) es)))) c.members.ensures
-    ∙ ap (λ g. overlay (graph_of_rows c.args.vertices.now c.args.arcs.now n) (when (bit c.args.guard.0 n) g)) (sym (ap (graph_stated c.args.known.now n) c.in-Overlay.is ∙ graph_of-Overlay (graphs_known c.args.known.now n) (valuation c.args.known.now.params n) c.in-Overlay.list.members)))
+    ∙ ap (λ g. overlay (graph_of_rows c.args.vertices.now c.args.arcs.now n) (when (bit c.args.guard.0 n) g))
+    (sym (ap (graph_stated c.args.known.now n) c.in-Overlay.is
+    ∙ graph_of-Overlay (graphs_known c.args.known.now n)
+    (valuation c.args.known.now.params n) c.in-Overlay.list.members)))
     c.add_overlay.ensures.graph
 
 pub add-returns-in-Sequence-clause-graph : goal.add-returns-in-Sequence-clause-graph
 add-returns-in-Sequence-clause-graph t c = OnOk-map c.add_sequence.result _ _ (λ graph n h.
     graph n h
     ∙ ap (λ es. overlay (graph_of_rows c.args.vertices.now c.args.arcs.now n) (when (bit c.args.guard.0 n) (sequence_all (map (graph_stated c.args.known.now n) es)))) c.members-in-Sequence.ensures
-    ∙ ap (λ g. overlay (graph_of_rows c.args.vertices.now c.args.arcs.now n) (when (bit c.args.guard.0 n) g)) (sym (ap (graph_stated c.args.known.now n) c.in-Sequence.is ∙ graph_of-Sequence (graphs_known c.args.known.now n) (valuation c.args.known.now.params n) c.in-Sequence.list.members)))
+    ∙ ap (λ g. overlay (graph_of_rows c.args.vertices.now c.args.arcs.now n) (when (bit c.args.guard.0 n) g))
+    (sym (ap (graph_stated c.args.known.now n) c.in-Sequence.is
+    ∙ graph_of-Sequence (graphs_known c.args.known.now n)
+    (valuation c.args.known.now.params n) c.in-Sequence.list.members)))
     c.add_sequence.ensures.graph

@@ -10,7 +10,10 @@ abbrev pub invariant-add_overlay-over : goal.invariant-add_overlay-over
 invariant-add_overlay-over l = record {
   rows : AreRowsOver l.known l.vertices l.arcs l.united;
   sound : IsTrue (all_sound (length l.fn.arcs) l.known.params (drop l.member-index l.members));
-  graph : (n : ℕ) → n < 64 → overlay (graph_of_rows l.vertices l.arcs n) (when (bit l.guard.0 n) (overlay_all (map (graph_stated l.known n) (drop l.member-index l.members)))) ≡ overlay (graph_of_rows l.fn.vertices l.fn.arcs n) (when (bit l.guard.0 n) (overlay_all (map (graph_stated l.known n) l.members)));
+  graph : (n : ℕ) → n < 64 → overlay (graph_of_rows l.vertices l.arcs n)
+      (when (bit l.guard.0 n) (overlay_all (map (graph_stated l.known n) (drop l.member-index l.members)))) ≡ overlay
+      (graph_of_rows l.fn.vertices l.fn.arcs n)
+      (when (bit l.guard.0 n) (overlay_all (map (graph_stated l.known n) l.members)));
 }
 
 abbrev pub invariant-add_sequence-line : goal.invariant-add_sequence-line
@@ -20,5 +23,7 @@ invariant-add_sequence-line l = record {
   rows : AreRowsOver l.known l.before l.arcs l.united;
   joined : AreJoined l.before l.joined l.arcs;
   sound : IsTrue (all_sound (length l.fn.arcs) l.known.params (drop l.member-index l.members));
-  graph : (n : ℕ) → n < 64 → sequence (graph_of_rows l.before l.arcs n) (when (bit l.guard.0 n) (sequence_all (map (graph_stated l.known n) (drop l.member-index l.members)))) ≡ sequence (arcs_at l.fn.arcs n) (when (bit l.guard.0 n) (sequence_all (map (graph_stated l.known n) l.members)));
+  graph : (n : ℕ) → n < 64 → sequence (graph_of_rows l.before l.arcs n)
+      (when (bit l.guard.0 n) (sequence_all (map (graph_stated l.known n) (drop l.member-index l.members)))) ≡
+      sequence (arcs_at l.fn.arcs n) (when (bit l.guard.0 n) (sequence_all (map (graph_stated l.known n) l.members)));
 }

@@ -8,7 +8,9 @@ use Rattle.pg_normal.proofs.adding.+note.Goals as goal
 
 pub note-returns-in-When : goal.note-returns-in-When
 note-returns-in-When t c = subst (λ vs. OnOk c.note-in-When.result (c.note-in-When.new.order ≡ with_numbers c.args.order.now vs))
-    (ap (appearing (orders_known c.args.known.now)) c.get.ensures ∙ sym (appearing-When (orders_known c.args.known.now) c.in-When.field-0 c.in-When.inner) ∙ ap (appearing (orders_known c.args.known.now)) (sym c.in-When.is))
+    (ap (appearing (orders_known c.args.known.now)) c.get.ensures
+    ∙ sym (appearing-When (orders_known c.args.known.now) c.in-When.field-0 c.in-When.inner)
+    ∙ ap (appearing (orders_known c.args.known.now)) (sym c.in-When.is))
     c.note-in-When.ensures
 
 pub note-returns-in-Overlay : goal.note-returns-in-Overlay

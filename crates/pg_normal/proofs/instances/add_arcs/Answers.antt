@@ -21,18 +21,24 @@ overflow_cast-v c =
 
 pub add_arc-requires-clause-first : goal.add_arc-requires-clause-first
 add_arc-requires-clause-first c = ap (λ ops. set.contains ops c.arc_ends-u.result.0) c.arcs.invariant.ops ∙ c.requires.ops c.arc_ends-u.result.0
-    ∙ (arc_has_ends c.args.form.now c.arc_ends-u.result.0 c.arc_ends-u.result.1 c.args.n c.arcs-i-end.ensures.form c.requires.valuation (ap (λ t. bit t c.args.n) (sym c.arc_table.ensures) ∙ sym c.value_at.ensures ∙ c.if-value_at.true)).0
+    ∙ (arc_has_ends c.args.form.now c.arc_ends-u.result.0 c.arc_ends-u.result.1 c.args.n c.arcs-i-end.ensures.form
+    c.requires.valuation (ap (λ t. bit t c.args.n) (sym c.arc_table.ensures) ∙ sym c.value_at.ensures
+    ∙ c.if-value_at.true)).0
 
 pub add_arc-requires-clause-second : goal.add_arc-requires-clause-second
 add_arc-requires-clause-second c = ap (λ ops. set.contains ops c.arc_ends-u.result.1) c.arcs.invariant.ops ∙ c.requires.ops c.arc_ends-u.result.1
-    ∙ (arc_has_ends c.args.form.now c.arc_ends-u.result.0 c.arc_ends-u.result.1 c.args.n c.arcs-i-end.ensures.form c.requires.valuation (ap (λ t. bit t c.args.n) (sym c.arc_table.ensures) ∙ sym c.value_at.ensures ∙ c.if-value_at.true)).1
+    ∙ (arc_has_ends c.args.form.now c.arc_ends-u.result.0 c.arc_ends-u.result.1 c.args.n c.arcs-i-end.ensures.form
+    c.requires.valuation (ap (λ t. bit t c.args.n) (sym c.arc_table.ensures) ∙ sym c.value_at.ensures
+    ∙ c.if-value_at.true)).1
 
 pub arcs-preserved : goal.arcs-preserved
 arcs-preserved c = elim c.if-value_at.branch [
   | then-value_at+in_ok-add_arc w ↦ record {
     size = ap (λ sc. sc.count) (w.scenario-is ∙ w.in_ok-add_arc.ensures.ok) ∙ c.arcs.invariant.size;
     ops = ap (λ sc. sc.ops) (w.scenario-is ∙ w.in_ok-add_arc.ensures.ok) ∙ c.arcs.invariant.ops;
-    arcs = λ a b. arc_added c.args.form.now c.args.n c.arcs.i c.arc_ends-u.result.0 c.arc_ends-u.result.1 a b c.arc_ends-u.ensures (has_arc c.arcs.scenario.arcs a b) (has_arc c.if-value_at.scenario.arcs a b)
+    arcs =
+        λ a b. arc_added c.args.form.now c.args.n c.arcs.i c.arc_ends-u.result.0 c.arc_ends-u.result.1 a b
+        c.arc_ends-u.ensures (has_arc c.arcs.scenario.arcs a b) (has_arc c.if-value_at.scenario.arcs a b)
         (ap (λ t. bit t c.args.n) (sym c.arc_table.ensures) ∙ sym c.value_at.ensures ∙ w.if-value_at.true)
         (ap (λ sc. has_arc sc.arcs a b) (w.scenario-is ∙ w.in_ok-add_arc.ensures.ok) ∙ has_with_arc c.arcs.scenario.arcs c.arc_ends-u.result.0 c.arc_ends-u.result.1 a b)
         (c.arcs.invariant.arcs a b);

@@ -7,7 +7,9 @@ use Rattle.pg_normal.proofs.instances.first_unbound.Goals as goal
 use Rattle.pg_normal.proofs.instances.first_unbound.Goals.{else-not-is_set-via-then-not-is_set+else-graph_changes, else-not-is_set-via-else-not-is_set}
 
 pub returns-then-graph_changes : goal.returns-then-graph_changes
-returns-then-graph_changes c = unbound_from c.args.form.now c.args.binding.fixed c.args.binding.values c.args.among.0 c.requires c.parameters.k (omega arith) (sym c.is_set.ensures ∙ c.if-not-is_set.true) c.if-graph_changes.ensures c.parameters.invariant
+returns-then-graph_changes c =
+    unbound_from c.args.form.now c.args.binding.fixed c.args.binding.values c.args.among.0 c.requires c.parameters.k
+    (omega arith) (sym c.is_set.ensures ∙ c.if-not-is_set.true) c.if-graph_changes.ensures c.parameters.invariant
 
 pub parameters-preserved : goal.parameters-preserved
 parameters-preserved c = elim c.else-not-is_set.branch [

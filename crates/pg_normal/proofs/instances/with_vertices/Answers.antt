@@ -26,7 +26,9 @@ vertices-preserved c = elim c.if-value_at.branch [
     size = ap (λ sc. sc.count) (w.scenario-is ∙ w.add_op.ensures) ∙ c.vertices.invariant.size;
     ops = λ v. vertex_added (λ x. bit (vertex_table c.args.form.now x) c.args.n) c.vertices.v v (set.contains c.vertices.scenario.ops v) (set.contains c.if-value_at.scenario.ops v)
         (sym (here c) ∙ w.if-value_at.true)
-        (ap (λ sc. set.contains sc.ops v) (w.scenario-is ∙ w.add_op.ensures) ∙ set.contains-insert nat_cmp_total c.vertices.scenario.ops c.vertices.v v ∙ ap (λ b. b || set.contains c.vertices.scenario.ops v) (unsigned_tied v c.vertices.v))
+        (ap (λ sc. set.contains sc.ops v) (w.scenario-is ∙ w.add_op.ensures)
+        ∙ set.contains-insert nat_cmp_total c.vertices.scenario.ops c.vertices.v v
+        ∙ ap (λ b. b || set.contains c.vertices.scenario.ops v) (unsigned_tied v c.vertices.v))
         (c.vertices.invariant.ops v);
     arcs = ap (λ sc. sc.arcs) (w.scenario-is ∙ w.add_op.ensures) ∙ c.vertices.invariant.arcs;
   }

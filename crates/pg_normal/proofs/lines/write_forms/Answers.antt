@@ -1,5 +1,5 @@
 use Rattle.std.specs.Prelude.{◌<◌, ◌≤◌, ◌++◌, length, refl}
-use Rattle.std.proofs.Common.{ap, ◌∙◌, subst, arith, slice_index_or}
+use Rattle.std.proofs.Common.{ap, ◌∙◌, subst, slice_index_or}
 use Rattle.line_text.specs.Lines.{text_of}
 use Rattle.pg_normal.specs.Listing.{params_lines}
 use Rattle.pg_normal.proofs.LineLemmas.{written_first, written_last, statement_within, written_more}
@@ -24,4 +24,6 @@ forms-preserved c =
     c.statement-statement.ensures.statement c.operations-names.ensures (ap (λ s. s.params) c.requires.scope.whole) refl c.in_ok-put_line.ensures
 
 pub returns : goal.returns
-returns c = written_last c.args.file.now c.args.normals.now.normals c.forms.normal-index c.forms.out.items c.forms.invariant (subst (λ xs. length xs ≤ c.forms.normal-index) c.as_slice-normal-items.ensures c.forms-test.false)
+returns c =
+    written_last c.args.file.now c.args.normals.now.normals c.forms.normal-index c.forms.out.items c.forms.invariant
+    (subst (λ xs. length xs ≤ c.forms.normal-index) c.as_slice-normal-items.ensures c.forms-test.false)

@@ -13,9 +13,13 @@ pub places-preserved : goal.places-preserved
 places-preserved c = elim c.if-table-ne0.branch [
   | then-table-ne0+in_ok-add_vertex w ↦ record {
     vertices = ap (λ f. map (λ e. e.0) f.vertices) (w.form-is ∙ w.in_ok-add_vertex.ensures.ok)
-        ∙ keys_added c.args.tables.now.order c.places.i c.get-v.result c.get-v.ensures (λ v. sometimes (bit (slice_index c.args.tables.now.vertices v))) c.places.form.vertices (record { 0 = c.get-table.result })
+        ∙ keys_added c.args.tables.now.order c.places.i c.get-v.result c.get-v.ensures
+        (λ v. sometimes (bit (slice_index c.args.tables.now.vertices v))) c.places.form.vertices
+        (record { 0 = c.get-table.result })
         (ap (λ y. sometimes (bit y)) (sym c.get-table.ensures) ∙ sometimes-word c.get-table.result (w.if-table-ne0.true, omega arith)) c.places.invariant.vertices;
-    tables = λ v. table_added c.args.tables.now.order c.places.i c.get-v.result c.get-v.ensures c.args.tables.now.vertices (vertex_table c.places.form v) (vertex_table c.if-table-ne0.form v) c.get-table.result v
+    tables =
+        λ v. table_added c.args.tables.now.order c.places.i c.get-v.result c.get-v.ensures c.args.tables.now.vertices
+        (vertex_table c.places.form v) (vertex_table c.if-table-ne0.form v) c.get-table.result v
         c.get-table.ensures (ap (λ f. vertex_table f v) w.form-is ∙ w.in_ok-add_vertex.ensures.tables v) (c.places.invariant.tables v);
     arcs = ap (λ f. f.arcs) (w.form-is ∙ w.in_ok-add_vertex.ensures.ok) ∙ c.places.invariant.arcs;
   }
@@ -24,7 +28,9 @@ places-preserved c = elim c.if-table-ne0.branch [
         ∙ keys_skipped c.args.tables.now.order c.places.i c.get-v.result c.get-v.ensures (λ v. sometimes (bit (slice_index c.args.tables.now.vertices v))) (map (λ e. e.0) c.places.form.vertices)
         (sometimes-zero (slice_index c.args.tables.now.vertices c.get-v.result) (sym c.get-table.ensures ∙ w.if-table-ne0.false)) c.places.invariant.vertices;
     tables = λ v. ap (λ f. vertex_table f v) w.form-is
-        ∙ table_skipped c.args.tables.now.order c.places.i c.get-v.result c.get-v.ensures c.args.tables.now.vertices (vertex_table c.places.form v) v (sym c.get-table.ensures ∙ w.if-table-ne0.false) (c.places.invariant.tables v);
+        ∙ table_skipped c.args.tables.now.order c.places.i c.get-v.result c.get-v.ensures c.args.tables.now.vertices
+        (vertex_table c.places.form v) v (sym c.get-table.ensures
+        ∙ w.if-table-ne0.false) (c.places.invariant.tables v);
     arcs = ap (λ f. f.arcs) w.form-is ∙ c.places.invariant.arcs;
   }
 ]

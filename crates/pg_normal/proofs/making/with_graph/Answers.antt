@@ -15,7 +15,9 @@ pub returns-clause-graphs : goal.returns-clause-graphs
 returns-clause-graphs c n other h =
     ap (λ k. graph_or_empty n (tables_named k other)) c.in_ok-known.ensures
     ∙ ap (graph_or_empty n) (at_push c.args.known.graphs c.args.known.tables c.args.name.now c.in_ok-tables.tables other c.requires.known.each c.requires.new)
-    ∙ graph_push n (bytes_eq other c.args.name.now) c.in_ok-tables.tables (tables_named c.args.known other) (graph_of (graphs_known c.args.known n) (valuation c.args.known.params n) c.args.expr.now) (c.in_ok-tables.ensures.graph n h)
+    ∙ graph_push n (bytes_eq other c.args.name.now) c.in_ok-tables.tables (tables_named c.args.known other)
+    (graph_of (graphs_known c.args.known n) (valuation c.args.known.params n) c.args.expr.now)
+    (c.in_ok-tables.ensures.graph n h)
 
 pub returns-clause-orders : goal.returns-clause-orders
 returns-clause-orders c other =

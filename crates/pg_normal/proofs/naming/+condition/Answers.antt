@@ -18,10 +18,12 @@ check_condition-returns-in-Not-clause-err t c = subst (λ fs. IfErr c.check_cond
 
 pub check_condition-returns-in-And-clause-ok : goal.check_condition-returns-in-And-clause-ok
 check_condition-returns-in-And-clause-ok t c = subst (λ fs. OnOk c.check_conditions.result (fs ≡ []))
-    (ap (λ cs. flat_map (unknown_param c.args.line c.args.params.now) (flat_map params_of cs)) c.members.ensures ∙ faults-conditions c.args.line c.args.params.now c.args.cond.now c.in-And.list.members c.in-And.is)
+    (ap (λ cs. flat_map (unknown_param c.args.line c.args.params.now) (flat_map params_of cs)) c.members.ensures
+    ∙ faults-conditions c.args.line c.args.params.now c.args.cond.now c.in-And.list.members c.in-And.is)
     c.check_conditions.ensures.ok
 
 pub check_condition-returns-in-And-clause-err : goal.check_condition-returns-in-And-clause-err
 check_condition-returns-in-And-clause-err t c = subst (λ fs. IfErr c.check_conditions.result (IsFirst fs))
-    (ap (λ cs. flat_map (unknown_param c.args.line c.args.params.now) (flat_map params_of cs)) c.members.ensures ∙ faults-conditions c.args.line c.args.params.now c.args.cond.now c.in-And.list.members c.in-And.is)
+    (ap (λ cs. flat_map (unknown_param c.args.line c.args.params.now) (flat_map params_of cs)) c.members.ensures
+    ∙ faults-conditions c.args.line c.args.params.now c.args.cond.now c.in-And.list.members c.in-And.is)
     c.check_conditions.ensures.err

@@ -1,4 +1,4 @@
-use Rattle.std.proofs.Common.{ap, ◌∙◌, sym, subst, arith}
+use Rattle.std.proofs.Common.{ap, ◌∙◌, sym, subst}
 use Rattle.std.specs.Prelude.{◌≤◌, length}
 use Rattle.std.proofs.lemmas.List.{drop_all}
 use Rattle.std.proofs.lemmas.Result.{err_from_is_err_and}
@@ -11,8 +11,12 @@ pub returns-in_err-enter-clause-err : goal.returns-in_err-enter-clause-err
 returns-in_err-enter-clause-err c =
     let p = err_from_is_err_and c.from_residual.result c.from_residual.ensures.1 in
     let ss = c.args.file.now.statements in
-    let here = item_at ss c.statements-numbered-items.result.now c.statements.numbered-index c.numbered-item.result c.numbered-item.result c.statements-numbered-items.ensures c.statements-test.true c.numbered-item.is in
-    rw (p.1, p.2) (line_faulty ss c.statements.numbered-index c.numbered-item.result here c.statements.scope (name_faults c.args.file.now) c.statements.invariant.faults c.in_err-enter.field-0.0 c.in_err-enter.ensures.err)
+    let here =
+    item_at ss c.statements-numbered-items.result.now c.statements.numbered-index c.numbered-item.result
+    c.numbered-item.result c.statements-numbered-items.ensures c.statements-test.true c.numbered-item.is in
+    rw (p.1, p.2) (line_faulty ss c.statements.numbered-index c.numbered-item.result here c.statements.scope
+    (name_faults c.args.file.now) c.statements.invariant.faults c.in_err-enter.field-0.0
+    c.in_err-enter.ensures.err)
 
 pub statements-preserved : goal.statements-preserved
 statements-preserved c =

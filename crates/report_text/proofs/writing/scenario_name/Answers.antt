@@ -1,4 +1,4 @@
-use Rattle.std.proofs.Common.{[], slice_get, Some, ◌≡◌, sym, ap, ◌∙◌, subst}
+use Rattle.std.proofs.Common.{[], slice_get, Some, ◌≡◌, sym, subst}
 use Rattle.std.proofs.lemmas.Option.{get_or_from_slice_get}
 use Rattle.report_text.proofs.writing.scenario_name.Goals as goal
 

@@ -7,7 +7,8 @@ use Rattle.report_text.proofs.writing.write_report.Goals as goal
 pub returns : goal.returns
 returns c =
     ap (λ (v : Vec ℕ Global). v.items) c.into_bytes.ensures.value
-    ∙ report_written c.args.report.now c.bits-bits.result c.gates-2.result.now c.names.result.now c.names-2.result.now c.graph.result.now c.graph-2.result.now c.bound.result c.design.result.now _ _ _ _ _ _ _ _
+    ∙ report_written c.args.report.now c.bits-bits.result c.gates-2.result.now c.names.result.now c.names-2.result.now
+    c.graph.result.now c.graph-2.result.now c.bound.result c.design.result.now _ _ _ _ _ _ _ _
     c.bits-bits.ensures.bits
     (c.gates-2.ensures.gates ∙ ap (λ (g : GateList). g.gates) c.gates.ensures.gates ∙ ap (λ (e : Encoding). e.gates.gates) c.encoding-encoding.ensures)
     c.names.ensures

@@ -20,7 +20,10 @@ pub turns-preserved : goal.turns-preserved
 turns-preserved c = record {
   reach = c.in_default-try_words.ensures.reach refl;
   size = length-set c.turns.tried c.in-Some.i _ ∙ c.turns.invariant.size;
-  tried = tried_more (MayHave c.args.task.now.given.now c.args.task.now.fixed.now) c.args.task.now.top c.args.task.now.count c.args.hole c.args.words.now c.turns.reach.reached c.try_words.new.self.reached c.turns.tried c.in-Some.i
+  tried =
+      tried_more (MayHave c.args.task.now.given.now c.args.task.now.fixed.now) c.args.task.now.top
+      c.args.task.now.count c.args.hole c.args.words.now c.turns.reach.reached c.try_words.new.self.reached
+      c.turns.tried c.in-Some.i
       (c.in_default-try_words.ensures.grows refl) c.turns.invariant.tried (c.in_default-try_words.ensures.tried refl);
 }
 

@@ -13,12 +13,18 @@ loop-other-init c = record {
 
 pub with_gate-requires-clause-lower : goal.with_gate-requires-clause-lower
 with_gate-requires-clause-lower c =
-    let h = can_join_next (record { gates = c.args.signals.now.list; signal = c.args.one }) c.args.others.now c.loop-other.other-index (record { gates = c.loop-other.signals.list; signal = c.loop-other.number }) c.loop-other.invariant.joined c.loop-other-test.true in
+    let h =
+    can_join_next (record { gates = c.args.signals.now.list; signal = c.args.one }) c.args.others.now
+    c.loop-other.other-index (record { gates = c.loop-other.signals.list; signal = c.loop-other.number })
+    c.loop-other.invariant.joined c.loop-other-test.true in
     omega (arith, h.0, c.min.ensures, c.max.ensures)
 
 pub with_gate-requires-clause-earlier : goal.with_gate-requires-clause-earlier
 with_gate-requires-clause-earlier c =
-    let h = can_join_next (record { gates = c.args.signals.now.list; signal = c.args.one }) c.args.others.now c.loop-other.other-index (record { gates = c.loop-other.signals.list; signal = c.loop-other.number }) c.loop-other.invariant.joined c.loop-other-test.true in
+    let h =
+    can_join_next (record { gates = c.args.signals.now.list; signal = c.args.one }) c.args.others.now
+    c.loop-other.other-index (record { gates = c.loop-other.signals.list; signal = c.loop-other.number })
+    c.loop-other.invariant.joined c.loop-other-test.true in
     omega (arith, h.1, h.2, c.max.ensures)
 
 pub with_gate-requires-clause-room : goal.with_gate-requires-clause-room
@@ -34,11 +40,16 @@ pub loop-other-preserved : goal.loop-other-preserved
 loop-other-preserved c =
     let gate : ℕ → ℕ → Gate = λ j k. record { j = j; k = k; table = 14 } in record {
       joined =
-          joined_next (record { gates = c.args.signals.now.list; signal = c.args.one }) c.args.others.now c.loop-other.other-index (record { gates = c.loop-other.signals.list; signal = c.loop-other.number }) c.loop-other.invariant.joined c.loop-other-test.true
+          joined_next (record { gates = c.args.signals.now.list; signal = c.args.one }) c.args.others.now
+          c.loop-other.other-index (record { gates = c.loop-other.signals.list; signal = c.loop-other.number })
+          c.loop-other.invariant.joined c.loop-other-test.true
           (record { gates = c.with_gate.new.self.list; signal = c.in_ok-number.number })
           (ap₂ (λ j k. with_gate c.loop-other.signals.list (gate j k)) (sym (least c)) (sym (greatest c)) ∙ c.in_ok-number.ensures.gate);
       codes = c.in_ok-number.ensures.codes ∙ c.loop-other.invariant.codes;
     }
 
 pub returns-clause-joined : goal.returns-clause-joined
-returns-clause-joined c = joined_end (record { gates = c.args.signals.now.list; signal = c.args.one }) c.args.others.now c.loop-other.other-index (record { gates = c.loop-other.signals.list; signal = c.loop-other.number }) c.loop-other.invariant.joined c.loop-other-test.false
+returns-clause-joined c =
+    joined_end (record { gates = c.args.signals.now.list; signal = c.args.one }) c.args.others.now
+    c.loop-other.other-index (record { gates = c.loop-other.signals.list; signal = c.loop-other.number })
+    c.loop-other.invariant.joined c.loop-other-test.false

@@ -12,7 +12,11 @@ at c =
 
 pub loop-i-init : goal.loop-i-init
 loop-i-init c = record {
-  minterm = first_step c.args.signals.now.list c.args.code c.only_at.result (c.only_at.ensures ∙ ap₂ only_at (c.has_bit.ensures ∙ ap (λ w. bit w 0) c.from-word.ensures) (c.has_bit-2.ensures ∙ ap (λ w. bit w 1) c.from-word.ensures)) (record { gates = c.with_gate.new.self.list; signal = c.in_ok-number.number }) c.in_ok-number.ensures.gate;
+  minterm =
+      first_step c.args.signals.now.list c.args.code c.only_at.result (c.only_at.ensures
+      ∙ ap₂ only_at (c.has_bit.ensures ∙ ap (λ w. bit w 0) c.from-word.ensures) (c.has_bit-2.ensures
+      ∙ ap (λ w. bit w 1) c.from-word.ensures))
+      (record { gates = c.with_gate.new.self.list; signal = c.in_ok-number.number }) c.in_ok-number.ensures.gate;
   codes = c.in_ok-number.ensures.codes;
 }
 
@@ -29,6 +33,10 @@ pub loop-i-preserved : goal.loop-i-preserved
 loop-i-preserved c = record {
   minterm =
       next_step c.args.signals.now.list c.args.code c.loop-i.i c.loop-i.signals.list c.loop-i.number c.loop-i.invariant.minterm (c.from.result + 2) c.only_at-in-loop-i.result
-      (ap (λ n. n + 2) c.from.ensures) (c.only_at-in-loop-i.ensures ∙ ap (λ b. only_at b true) (c.has_bit-in-loop-i.ensures ∙ ap (λ w. bit w (c.loop-i.i + 2)) c.from-word.ensures)) (record { gates = c.with_gate-in-loop-i.new.self.list; signal = c.in_ok-number-2.number }) c.in_ok-number-2.ensures.gate;
+      (ap (λ n. n + 2) c.from.ensures) (c.only_at-in-loop-i.ensures
+      ∙ ap (λ b. only_at b true) (c.has_bit-in-loop-i.ensures
+      ∙ ap (λ w. bit w (c.loop-i.i + 2)) c.from-word.ensures))
+      (record { gates = c.with_gate-in-loop-i.new.self.list; signal = c.in_ok-number-2.number })
+      c.in_ok-number-2.ensures.gate;
   codes = c.in_ok-number-2.ensures.codes ∙ c.loop-i.invariant.codes;
 }

@@ -9,5 +9,6 @@ loop-s-init c = no_word _
 
 pub loop-s-preserved : goal.loop-s-preserved
 loop-s-preserved c =
-    one_bit_more (λ k. bit (code_at c.args.codes.now k) c.args.i) c.loop-s.s c.loop-s.word c.with_bit-word.result c.has_bit.result c.loop-s.invariant (c.has_bit.ensures ∙ ap (λ w. bit w c.args.i) c.from.ensures)
+    one_bit_more (λ k. bit (code_at c.args.codes.now k) c.args.i) c.loop-s.s c.loop-s.word c.with_bit-word.result
+    c.has_bit.result c.loop-s.invariant (c.has_bit.ensures ∙ ap (λ w. bit w c.args.i) c.from.ensures)
     c.with_bit-word.ensures.same c.with_bit-word.ensures.others c.with_bit-word.ensures.below

@@ -11,5 +11,7 @@ invariant_of-self-2 c =
       c.self.invariant.0,
       c.self.invariant.1,
       omega (arith, same, long, c.requires.room),
-      subst (AreGatesFrom c.self.inside.inputs) (sym c.in_ok-push.ensures.ok) (one_more_gate c.self.inside.inputs gates c.args.gate c.self.invariant.3 c.requires.lower (omega (arith, same, c.requires.earlier)) c.requires.table),
+      subst (AreGatesFrom c.self.inside.inputs) (sym c.in_ok-push.ensures.ok)
+          (one_more_gate c.self.inside.inputs gates c.args.gate c.self.invariant.3 c.requires.lower
+          (omega (arith, same, c.requires.earlier)) c.requires.table),
     )

@@ -6,10 +6,18 @@ use Rattle.gate_core.proofs.GateLemmas.{next_value, with_gates_push, gate_reads}
 use Rattle.gate_core.proofs.gate_list.GateList.write_gates.Goals as goal
 
 pub bounds-out-gate : goal.bounds-out-gate
-bounds-out-gate c = let h = gate_reads _ _ c.loop-g.g (record { j = 0; k = 0; table = 0 }) (subst (AreGatesFrom c.args.self.now.inputs) (sym c.gates-gate-items.ensures.gates) c.gates-gate-items.ensures.earlier) c.loop-g-test.true in omega (arith, h.0, h.1, ap length c.gates-gate-items.ensures.gates)
+bounds-out-gate c = let h =
+    gate_reads _ _ c.loop-g.g (record { j = 0; k = 0; table = 0 })
+    (subst (AreGatesFrom c.args.self.now.inputs)
+    (sym c.gates-gate-items.ensures.gates) c.gates-gate-items.ensures.earlier) c.loop-g-test.true in
+    omega (arith, h.0, h.1, ap length c.gates-gate-items.ensures.gates)
 
 pub bounds-out-gate-in-loop-g : goal.bounds-out-gate-in-loop-g
-bounds-out-gate-in-loop-g c = let h = gate_reads _ _ c.loop-g.g (record { j = 0; k = 0; table = 0 }) (subst (AreGatesFrom c.args.self.now.inputs) (sym c.gates-gate-items.ensures.gates) c.gates-gate-items.ensures.earlier) c.loop-g-test.true in omega (arith, h.1, ap length c.gates-gate-items.ensures.gates)
+bounds-out-gate-in-loop-g c = let h =
+    gate_reads _ _ c.loop-g.g (record { j = 0; k = 0; table = 0 })
+    (subst (AreGatesFrom c.args.self.now.inputs)
+    (sym c.gates-gate-items.ensures.gates) c.gates-gate-items.ensures.earlier) c.loop-g-test.true in
+    omega (arith, h.1, ap length c.gates-gate-items.ensures.gates)
 
 pub loop-g-preserved : goal.loop-g-preserved
 loop-g-preserved c =

@@ -7,7 +7,14 @@ use Rattle.handshake_eqs.proofs.netlist.Netlist.add_wait.Goals as goal
 
 pub invariant_of-self : goal.invariant_of-self
 invariant_of-self c =
-    let old : Netlist = record { gates = c.self.inside.gates; conditions = c.self.inside.conditions.items; wires = map (λ row. row.items) c.self.inside.wires.items; waits = c.self.inside.waits.items } in
+    let old : Netlist =
+    record {
+      gates = c.self.inside.gates;
+      conditions = c.self.inside.conditions.items;
+      wires = map
+          (λ row. row.items) c.self.inside.wires.items;
+      waits = c.self.inside.waits.items;
+    } in
     let same : length old.conditions ≡ length c.args.self.now.conditions = ap (λ n. length n.conditions) c.self.view_is in
     let lv : c.args.v.0 < length old.waits = omega (arith, same, c.requires.second, c.self.invariant.waits) in
     let before = c.index_mut.ensures.value ∙ get_or_default old.waits c.args.v.0 c.index_mut.result.now set.empty lv in

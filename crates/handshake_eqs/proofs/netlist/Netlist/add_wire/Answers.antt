@@ -10,7 +10,14 @@ use Rattle.handshake_eqs.proofs.netlist.Netlist.add_wire.Goals as goal
 
 pub invariant_of-self : goal.invariant_of-self
 invariant_of-self c =
-    let old : Netlist = record { gates = c.self.inside.gates; conditions = c.self.inside.conditions.items; wires = map (λ row. row.items) c.self.inside.wires.items; waits = c.self.inside.waits.items } in
+    let old : Netlist =
+    record {
+      gates = c.self.inside.gates;
+      conditions = c.self.inside.conditions.items;
+      wires = map
+          (λ row. row.items) c.self.inside.wires.items;
+      waits = c.self.inside.waits.items;
+    } in
     let same : length old.conditions ≡ length c.args.self.now.conditions = ap (λ n. length n.conditions) c.self.view_is in
     let rows = length-map c.self.inside.wires.items (λ row. row.items) in
     let changed = row_changed (λ row. row.items) c.self.inside.wires.items c.args.u.0 c.args.v.0 (Some c.args.r) c.index_mut.result.now (with_item c.index_mut.result.now c.args.v.0 (Some c.args.r))
@@ -21,7 +28,14 @@ invariant_of-self c =
 
 pub returns-clause-wires : goal.returns-clause-wires
 returns-clause-wires c =
-    let old : Netlist = record { gates = c.self.inside.gates; conditions = c.self.inside.conditions.items; wires = map (λ row. row.items) c.self.inside.wires.items; waits = c.self.inside.waits.items } in
+    let old : Netlist =
+    record {
+      gates = c.self.inside.gates;
+      conditions = c.self.inside.conditions.items;
+      wires = map
+          (λ row. row.items) c.self.inside.wires.items;
+      waits = c.self.inside.waits.items;
+    } in
     let same : length old.conditions ≡ length c.args.self.now.conditions = ap (λ n. length n.conditions) c.self.view_is in
     let rows = length-map c.self.inside.wires.items (λ row. row.items) in
     let changed = row_changed (λ row. row.items) c.self.inside.wires.items c.args.u.0 c.args.v.0 (Some c.args.r) c.index_mut.result.now (with_item c.index_mut.result.now c.args.v.0 (Some c.args.r))

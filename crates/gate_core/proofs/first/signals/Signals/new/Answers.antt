@@ -9,7 +9,9 @@ invariant_of-result c =
     let all : c.loop-i.i ≡ c.args.inputs = omega (arith, c.loop-i.auto, c.loop-i-test.false) in
     subst (λ codes. AreSignals codes (gates_of c.args.inputs c.new.result.keys) c.loop-i.words.items) (sym c.in_ok-from_slice.ensures.items)
     (subst (λ keys. AreSignals c.args.codes.now (gates_of c.args.inputs keys) c.loop-i.words.items) (no_keys c.new.result.keys c.new.ensures.len)
-    (only_inputs c.args.codes.now c.args.inputs c.loop-i.words.items c.requires.some c.requires.few c.requires.few_codes (subst (λ i. AreInputsTo c.args.codes.now i c.loop-i.words.items) all c.loop-i.invariant)))
+    (only_inputs c.args.codes.now c.args.inputs c.loop-i.words.items c.requires.some c.requires.few
+    c.requires.few_codes (subst (λ i. AreInputsTo c.args.codes.now i c.loop-i.words.items) all
+    c.loop-i.invariant)))
 
 pub returns : goal.returns
 returns c =

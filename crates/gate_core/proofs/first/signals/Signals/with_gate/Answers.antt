@@ -26,7 +26,9 @@ invariant_of-self-2 c =
           (subst (λ ks. AreSignals codes (gates_of inputs ks) w.push.new.self.items) (sym c.in_ok-place.ensures.keys)
           (subst (λ ws. AreSignals codes (gates_of inputs (keys_with inputs keys key)) ws) (sym (w.in_ok-push.ensures.items ∙ ap (λ ws. ws ++ c.gate_word-word.result ∷ []) c.reserve.ensures.items))
           (signals_with inputs keys key codes words c.gate_word-word.result c.self.invariant c.requires.lower earlier c.requires.table
-          (λ s l. c.gate_word-word.ensures s (omega (arith, l, c.self.invariant.few_codes)) ∙ ap (λ x. gate_value c.args.gate.table (bit x s) (bit c.index-2.result.now s)) first ∙ ap (λ x. gate_value c.args.gate.table (bit (slice_index words c.args.gate.j) s) (bit x s)) second)
+          (λ s l. c.gate_word-word.ensures s (omega (arith, l, c.self.invariant.few_codes))
+          ∙ ap (λ x. gate_value c.args.gate.table (bit x s) (bit c.index-2.result.now s)) first
+          ∙ ap (λ x. gate_value c.args.gate.table (bit (slice_index words c.args.gate.j) s) (bit x s)) second)
           (not-true (is_kept inputs keys key) (sym c.in_ok-place.ensures.added ∙ w.if-is_new.true)))))
       | else-is_new w ↦ subst (λ x. AreSignals x.codes.items (gates_of x.inputs x.gates.keys) x.words.items) (sym w.self-inside-is)
           (subst (λ ks. AreSignals codes (gates_of inputs ks) c.reserve.new.self.items) (sym c.in_ok-place.ensures.keys)
@@ -47,7 +49,9 @@ returns-clause-gate c =
       | else-is_new w ↦ c.from.ensures ∙ ap (λ x. x.inputs) w.self-inside-is
     ] in
     let make : GateList → ℕ → Reached = λ gates signal. record { gates = gates; signal = signal } in
-    let place : c.self.inside.inputs + position_or_len (λ y. same_gate (gate_of key) (gate_of y)) keys ≡ c.from.result + c.in_ok-place.place = ap₂ (λ a b. a + b) (sym number) (sym c.in_ok-place.ensures.index) in
+    let place : c.self.inside.inputs + position_or_len
+    (λ y. same_gate (gate_of key) (gate_of y)) keys ≡ c.from.result + c.in_ok-place.place = ap₂ (λ a b. a + b)
+    (sym number) (sym c.in_ok-place.ensures.index) in
     ap (λ (v : Signals). with_gate v.list c.args.gate) (sym c.self.view_is)
     ∙ with_key c.self.inside.inputs keys key
     ∙ ap (λ gates. make gates (c.self.inside.inputs + position_or_len (λ y. same_gate (gate_of key) (gate_of y)) keys)) view

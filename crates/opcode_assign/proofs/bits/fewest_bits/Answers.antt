@@ -1,6 +1,6 @@
 use Rattle.std.proofs.Common.{rules}
 use Rattle.opcode_assign.proofs.BitLemmas.{least_bits}
-use Rattle.opcode_assign.proofs.bits.bits_of.Goals as goal
+use Rattle.opcode_assign.proofs.bits.fewest_bits.Goals as goal
 
 pub returns-in-3-to-4-clause-least : goal.returns-in-3-to-4-clause-least
 returns-in-3-to-4-clause-least c = least_bits c.args.scenarios 1 (search rules) (search rules)
