@@ -9,7 +9,7 @@ const USAGE: &[u8] =
 
 #[test]
 fn other_words_print_the_usage_line(rt: HostRuntime) -> Result<(), Fail> {
-    let table: [&[&str]; 16] = [
+    let table: [&[&str]; 25] = [
         &[],
         &["help"],
         &["Synth"],
@@ -26,6 +26,15 @@ fn other_words_print_the_usage_line(rt: HostRuntime) -> Result<(), Fail> {
         &["normal", "--bits", "2"],
         &["normal", "x"],
         &["Normal"],
+        &["synth", "--budget", "5"],
+        &["cnf"],
+        &["cnf", "4097"],
+        &["cnf", "04"],
+        &["cnf", "-1"],
+        &["cnf", "1", "--bits", "1"],
+        &["cnf", "--bits", "2", "1"],
+        &["cnf", "1", "--bits", "2", "--bits", "2"],
+        &["cnf", "1", "2"],
     ];
     for words in table {
         let ending = run(rt.alloc(), words, b"scenario A = a\n")?;
