@@ -1,6 +1,6 @@
 -- How long a line of a progress log is, and how many there are.
 use Rattle.std.proofs.Common.{◌≡◌, ◌≢◌, ◌⊎◌, ℕ, zero, suc, ◌+◌, ◌-◌, ◌*◌, ◌^◌, ◌<◌, ◌≤◌, ◌==◌, if◌then◌else◌, Bool, true, false, List, [], ◌∷◌, length, Option, Some, None, IsSomeAnd, slice_get, refl, sym, ap, ◌∙◌, subst, inl, inr, arith, pow-suc}
-use Rattle.sat_trail.proofs.LitLemmas.{opposite_twice, lit_same, same_var}
+use Rattle.sat_trail.proofs.LitLemmas.{opposite_twice, lit_same, same_var, same_lit}
 use Rattle.sat_engine.specs.Steps.{IsWithin}
 use Rattle.proof_check.specs.Progress.{IsKnown, IsNew, given, forced, IsProgress, IsProgressLog, IsProgressLine}
 use Rattle.proof_check.specs.Lines.{Line, Add, Del, numbers}
@@ -101,18 +101,6 @@ leads_few n live live_in (h ∷ k ∷ hints) falses once within lead =
     in_more l falses within lw m (inr i) = within m i
 
 -- ---- how many lines
-
-same_lit : (a b : Lit) → (a ≡ b) ⊎ (a ≢ b)
-same_lit a b = elim (cases_eq a.var b.var) [
-  | inl v ↦ of_bits a.negated b.negated refl refl v
-  | inr v ↦ inr (λ e. v (ap (λ (l : Lit). l.var) e))
-]
-  where
-    of_bits : (x y : Bool) → a.negated ≡ x → b.negated ≡ y → a.var ≡ b.var → (a ≡ b) ⊎ (a ≢ b)
-    of_bits true true p q v = inl (lit_same a b v (p ∙ sym q))
-    of_bits false false p q v = inl (lit_same a b v (p ∙ sym q))
-    of_bits true false p q v = inr (λ e. let n : a.negated ≡ b.negated = ap (λ (l : Lit). l.negated) e in cc)
-    of_bits false true p q v = inr (λ e. let n : a.negated ≡ b.negated = ap (λ (l : Lit). l.negated) e in cc)
 
 member : (l : Lit) (c : Clause) → In l c ⊎ (In l c → ⊥)
 member l [] = inr (λ i. i)
@@ -280,7 +268,7 @@ progress_numbers n c (Add id lits hints ∷ lines) live known live_in p =
     step x y k n a b = omega (arith, a, b)
 progress_numbers n c (Del ids ∷ lines) live known live_in p = absurd p
 
-known_get : (cs : List Clause) (k : ℕ) (c : Clause) → slice_get cs k ≡ Some c → IsKnown c cs
+pub known_get : (cs : List Clause) (k : ℕ) (c : Clause) → slice_get cs k ≡ Some c → IsKnown c cs
 known_get [] k c e = absurd (let s : None ≡ Some c = e in cc)
 known_get (d ∷ cs) zero c e = inl (let s : Some d ≡ Some c = e in cc)
 known_get (d ∷ cs) (suc k) c e = inr (known_get cs k c e)

@@ -1,5 +1,8 @@
 -- Every variable has a value.
 use Rattle.std.proofs.Common.{◌≡◌, ◌≢◌, ◌⊎◌, ℕ, zero, suc, ◌+◌, ◌-◌, ◌<◌, ◌≤◌, Bool, true, false, not, if◌then◌else◌, IsTrue, List, [], ◌∷◌, ◌++◌, take, length, Some, slice_get, slice_index_or, refl, sym, ap, ◌∙◌, subst, inl, inr, arith, length-append}
+use Rattle.sat_engine.proofs.PlaceLemmas.{true_at}
+use Rattle.sat_engine.proofs.BoundLemmas.{known_get}
+use Rattle.watch_lists.proofs.TrailFacts.{place_true}
 use Rattle.sat_trail.proofs.LitLemmas.{lit_same, same_var}
 use Rattle.proof_check.specs.Following.{AllFalse, Refutes, first_live}
 use Rattle.sat_engine.specs.Steps.{IsWithin}
@@ -15,12 +18,10 @@ use Rattle.sat_engine.specs.Searches.{IsSameSet, AreSameSets, AreFilled, IsSearc
 use Rattle.sat_engine.specs.Verdicts.{IsFull}
 use Rattle.sat_engine.specs.Copies.{IsLoaded}
 use Rattle.sat_engine.specs.Outcomes.{AreAssigned}
-use Rattle.sat_engine.proofs.PlaceLemmas.{true_place, place_true}
 use Rattle.sat_engine.proofs.LessonLemmas.{consistent}
 use Rattle.sat_engine.proofs.WalkLemmas.{get_is}
 use Rattle.sat_engine.proofs.KeepLemmas.{get_below}
 use Rattle.sat_engine.proofs.SearchLemmas.{known_place, known_left, below_get}
-use Rattle.sat_engine.proofs.StepLemmas.{known_get}
 use Rattle.sat_engine.specs.Steps.{added}
 use Rattle.sat_engine.proofs.LearnLemmas.{some_and}
 use Rattle.clause_arena.specs.Arenas.{clause_at}
@@ -28,11 +29,11 @@ use Rattle.clause_arena.specs.Arenas.{clause_at}
 -- one more variable that has a value
 pub owned_more : (entries : List Entry) (n : ℕ) (l : Lit) (b : Bool) → l.var ≡ n + 1 → IsValue entries l (Some b) → ((v : ℕ) → 0 < v → v ≤ n → IsAssigned entries v) → (v : ℕ) → 0 < v → v ≤ n + 1 → IsAssigned entries v
 owned_more entries n l true e is before v pos le = elim (cases_eq v (n + 1)) [
-  | inl same ↦ let p = true_place entries l is in (p.0, p.1.0, ap (λ (q : Lit). q.var) p.1.1 ∙ e ∙ sym same)
+  | inl same ↦ let p = true_at entries l is in (p.0, p.1.0, ap (λ (q : Lit). q.var) p.1.1 ∙ e ∙ sym same)
   | inr other ↦ before v pos (omega (arith, le, other))
 ]
 owned_more entries n l false e is before v pos le = elim (cases_eq v (n + 1)) [
-  | inl same ↦ let p = true_place entries (opposite l) is in (p.0, p.1.0, ap (λ (q : Lit). q.var) p.1.1 ∙ e ∙ sym same)
+  | inl same ↦ let p = true_at entries (opposite l) is in (p.0, p.1.0, ap (λ (q : Lit). q.var) p.1.1 ∙ e ∙ sym same)
   | inr other ↦ before v pos (omega (arith, le, other))
 ]
 
@@ -93,7 +94,7 @@ lit_holds t values trail a l pos fits i = of_bits l.negated (by_place values l.v
     of_bits false false p q = absurd (a.when_false l.var pos fits q (subst (λ m. In m (true_lits t.entries)) (lit_same l plain refl p) i))
     of_bits true true p q =
         let other : opposite plain ≡ l = lit_same (opposite plain) l refl (sym p) in
-        absurd (consistent t trail plain (true_place t.entries plain (a.when_true l.var pos fits q)) (true_place t.entries (opposite plain) (subst (λ m. In m (true_lits t.entries)) (sym other) i)))
+        absurd (consistent t trail plain (true_at t.entries plain (a.when_true l.var pos fits q)) (true_at t.entries (opposite plain) (subst (λ m. In m (true_lits t.entries)) (sym other) i)))
 
 pub full_satisfies : (formula clauses : List Clause) (lines : List Line) (n : ℕ) (t : TrailState) (values : List Bool) → IsWithin formula n → IsFull formula clauses lines n t → AreAssigned t values t.variables → Satisfies (by_place values) formula
 full_satisfies formula clauses lines n t values within full a = satisfied_by (by_place values) formula each

@@ -1,5 +1,6 @@
 -- The search after a cut, and after a learnt clause.
 use Rattle.std.proofs.Common.{◌≡◌, ◌≢◌, ◌⊎◌, ℕ, zero, suc, ◌+◌, ◌-◌, ◌<◌, ◌≤◌, List, [], ◌∷◌, ◌++◌, take, length, Some, None, slice_get, refl, sym, ap, ◌∙◌, subst, inl, inr, arith, length-append}
+use Rattle.sat_trail.proofs.LitLemmas.{same_lit}
 use Rattle.std.proofs.lemmas.Bool.{cases_lt}
 use Rattle.std.proofs.lemmas.List.{take-append-le}
 use Rattle.clause_arena.specs.Clauses.{Lit, opposite, Clause, In}
@@ -8,7 +9,6 @@ use Rattle.clause_arena.specs.Arenas.{clause_at}
 use Rattle.sat_engine.specs.Findings.{HasReason}
 use Rattle.sat_engine.specs.Lessons.{IsTrueLit}
 use Rattle.sat_engine.specs.Searches.{AreQuietBelow, AreExplained}
-use Rattle.sat_engine.proofs.PlaceLemmas.{same_lit}
 
 pub first_part : (xs ys : List Entry) (p : ℕ) → p < length xs → entry_at (xs ++ ys) p ≡ entry_at xs p
 first_part [] ys p l = absurd (omega (arith, l))

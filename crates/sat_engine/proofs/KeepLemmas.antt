@@ -1,5 +1,6 @@
 -- Each step of the search keeps what it rests on.
 use Rattle.std.proofs.Common.{◌≡◌, ◌≢◌, ◌⊎◌, ℕ, zero, suc, ◌+◌, ◌-◌, ◌<◌, ◌≤◌, Bool, true, false, not, List, [], ◌∷◌, ◌++◌, take, length, Option, Some, None, IsSome, slice_get, refl, sym, ap, ◌∙◌, subst, inl, inr, arith, length-append}
+use Rattle.watch_lists.proofs.TrailFacts.{place_true}
 use Rattle.sat_engine.specs.Steps.{IsWithin}
 use Rattle.proof_check.specs.Progress.{IsKnown}
 use Rattle.sat_trail.specs.Propagation.{IsQuiet}
@@ -9,14 +10,14 @@ use Rattle.std.proofs.Math.Seq.{take-append_seam}
 use Rattle.std.specs.List.{All}
 use Rattle.clause_arena.specs.Clauses.{Lit, opposite, Clause, In}
 use Rattle.sat_trail.specs.Trails.{Entry, TrailState, entry_at, true_lits, IsTrail, IsCutTo, IsUnassigned, IsAt, IsTrueBy}
-use Rattle.sat_trail.proofs.LitLemmas.{opposite_twice}
+use Rattle.sat_trail.proofs.LitLemmas.{opposite_twice, same_lit}
 use Rattle.clause_arena.specs.Arenas.{clause_at}
-use Rattle.sat_engine.specs.Findings.{HasReason, AllQuiet, AreWithin}
+use Rattle.sat_engine.specs.Findings.{HasReason, AllQuiet, AllWithin}
 use Rattle.watch_lists.specs.Watching.{Watching, listed, IsGrown, HasWatchedReason}
 use Rattle.sat_engine.specs.Lessons.{IsTrueLit, IsLesson}
 use Rattle.sat_engine.specs.Searches.{AreQuietBelow, AreExplained, IsAttached, IsSearching, AreListed, IsJump, IsWatchedOrTrue}
 use Rattle.sat_engine.proofs.LessonLemmas.{at_one, consistent}
-use Rattle.sat_engine.proofs.PlaceLemmas.{same_lit, place_true, true_place, quiet_true}
+use Rattle.sat_engine.proofs.PlaceLemmas.{quiet_true, true_at}
 use Rattle.sat_engine.proofs.WalkLemmas.{get_is, lesson_within}
 use Rattle.sat_engine.proofs.JumpLemmas.{first_part, last_part, more_true, less_true, quiet_cut, quiet_grow, quiet_push, quiet_open, explained_cut, explained_more, get_push}
 
@@ -39,7 +40,7 @@ all_from [] n h k d kl = absurd (omega (arith, kl))
 all_from (l ∷ c) n h zero d kl = (h l (inl refl)).1
 all_from (l ∷ c) n h (suc k) d kl = all_from c n (λ m i. h m (inr i)) k d (omega (arith, kl))
 
-pub within_at : (cs : List Clause) (n : ℕ) → IsWithin cs n → AreWithin cs n
+pub within_at : (cs : List Clause) (n : ℕ) → IsWithin cs n → AllWithin cs n
 within_at cs n within k l = all_from (clause_at cs k) n (within (clause_at cs k) (known_at cs k l))
 
 -- what is explained stays so where each new entry is
@@ -82,7 +83,7 @@ all_quiet clauses w t s listing quiet k kl = of (listing.covered k (clause_at cl
         | inr more ↦
             let first = others b.0 b.1 other in
             let second = others (opposite b.0) b.2 more in
-            absurd (consistent t s.trail (opposite b.0) (true_place t.entries (opposite b.0) first) (true_place t.entries (opposite (opposite b.0)) second))
+            absurd (consistent t s.trail (opposite b.0) (true_at t.entries (opposite b.0) first) (true_at t.entries (opposite (opposite b.0)) second))
       ]
     ]
     of (inr (inr d)) = quiet_true t s.trail (clause_at clauses k) d.0 d.1 (place_true t.entries d.2.0 d.0 d.2.1.0 d.2.1.1)
@@ -146,7 +147,7 @@ keep_decided clauses old new l s quiet given is trail = record {
     done : (k : ℕ) (c : Clause) → slice_get clauses k ≡ Some c → (m : Lit) → In m c → ((n : Lit) → In n c → n ≢ m → IsTrueLit old.entries (opposite n)) → IsTrueLit old.entries m
     done k c g m i others =
         let at = at_get clauses k c g in
-        true_place old.entries m (quiet k (get_below clauses k c g) m (subst (λ q. In m q) (sym at) i) (λ n j ne. let o = others n (subst (λ q. In n q) at j) ne in place_true old.entries o.0 (opposite n) o.1.0 o.1.1))
+        true_at old.entries m (quiet k (get_below clauses k c g) m (subst (λ q. In m q) (sym at) i) (λ n j ne. let o = others n (subst (λ q. In n q) at j) ne in place_true old.entries o.0 (opposite n) o.1.0 o.1.1))
 
 -- a cut
 pub keep_cut : (clauses : List Clause) (old new : TrailState) (level : ℕ) → IsSearching clauses old → level ≤ old.level → IsCutTo old new level → IsTrail new → IsSearching clauses new
@@ -233,7 +234,7 @@ module _ (clauses : List Clause) (t cut : TrailState) (x : Lit) (lits : List Lit
 
   -- the asserted literal has no value after the cut
   pub jump_open : IsUnassigned cut.entries x
-  jump_open = (λ i. let p = true_place cut.entries x i in consistent t s.trail x (p.0, old_place p.0 x p.1) (lesson.asserting.0, lesson.asserting.1), λ i. let p = true_place cut.entries (opposite x) i in not_false p.0 p.1)
+  jump_open = (λ i. let p = true_at cut.entries x i in consistent t s.trail x (p.0, old_place p.0 x p.1) (lesson.asserting.0, lesson.asserting.1), λ i. let p = true_at cut.entries (opposite x) i in not_false p.0 p.1)
 
   others_false : (m : Lit) → In m lits → m ≢ x → In (opposite m) (true_lits cut.entries)
   others_false m i ne = let h = far.high m i ne in let p = new_place h.0 (opposite m) h.1 h.2 in place_true cut.entries h.0 (opposite m) p.0 p.1

@@ -1,19 +1,10 @@
 -- Closed sets hold what propagation gives, and a cut of reasons leads through its hints.
-use Rattle.std.proofs.Common.{◌≡◌, ◌≢◌, ◌⊎◌, ℕ, Bool, true, false, not, List, [], ◌∷◌, Option, Some, IsSomeAnd, refl, ap, subst, inl, inr}
+use Rattle.std.proofs.Common.{◌≡◌, ◌≢◌, ◌⊎◌, ℕ, List, [], ◌∷◌, Option, Some, IsSomeAnd, refl, subst, inl, inr}
+use Rattle.sat_trail.proofs.LitLemmas.{opposite_twice, opposite_back}
 use Rattle.proof_check.specs.Progress.{IsKnown, Propagated, given, forced, OthersFalse, IsNewBy}
 use Rattle.proof_check.specs.Following.{Live, AllFalse}
 use Rattle.clause_arena.specs.Clauses.{Lit, opposite, Clause, In}
 use Rattle.sat_engine.specs.Steps.{IsClosed, IsConsistent, CutLeads}
-
-pub not_not : (b : Bool) → not (not b) ≡ b
-not_not true = refl
-not_not false = refl
-
-pub opposite_twice : (l : Lit) → opposite (opposite l) ≡ l
-opposite_twice l = rw (not_not l.negated) refl
-
-pub opposite_back : (a b : Lit) → opposite a ≡ opposite b → a ≡ b
-opposite_back a b e = let t : opposite (opposite a) ≡ opposite (opposite b) = ap opposite e in rw (opposite_twice a, opposite_twice b) at t
 
 -- what propagates from literals of a closed set is in it
 pub stays_inside : (known : List Clause) (S start : Lit → Type 0) → IsClosed known S → ((l : Lit) → start l → S l) → (l : Lit) → Propagated known start l → S l

@@ -8,10 +8,9 @@ use Rattle.sat_trail.specs.Trails.{Entry, TrailState, entry_at, true_lits, IsTra
 use Rattle.sat_trail.proofs.TrailLemmas.{place_of}
 use Rattle.watch_lists.specs.Watched.{IsCovered, AreRearranged}
 use Rattle.watch_lists.specs.Watching.{Watching, listed, IsFit, IsFitBelow}
-use Rattle.watch_lists.proofs.TrailFacts.{one_place}
+use Rattle.watch_lists.proofs.TrailFacts.{one_place, place_true}
 use Rattle.watch_lists.proofs.KeepLemmas.{fit_cut_below, fit_more, fit_push, cover_true, cover_highest}
 use Rattle.sat_engine.specs.Searches.{IsJump, IsOfLevel, IsSized}
-use Rattle.sat_engine.proofs.PlaceLemmas.{place_true}
 use Rattle.sat_engine.proofs.JumpLemmas.{first_part, last_part}
 use Rattle.sat_engine.proofs.CopyLemmas.{fit_same}
 use Rattle.sat_engine.proofs.SetLemmas.{literals_same}

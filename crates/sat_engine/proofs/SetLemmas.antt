@@ -1,5 +1,6 @@
 -- The search goes on over clauses with the same sets, as two watches leave them.
 use Rattle.std.proofs.Common.{◌≡◌, ℕ, suc, ◌<◌, List, [], ◌∷◌, take, length, Some, slice_get, refl, sym, ◌∙◌, subst, inl, inr, arith}
+use Rattle.sat_engine.proofs.BoundLemmas.{known_get}
 use Rattle.proof_check.specs.Lines.{Line}
 use Rattle.watch_lists.specs.Watched.{AreRearranged}
 use Rattle.std.proofs.lemmas.List.Sums.{sum_by-append}
@@ -12,7 +13,6 @@ use Rattle.watch_lists.specs.Watching.{Watching, AreSameAttached}
 use Rattle.sat_engine.proofs.WalkLemmas.{get_is}
 use Rattle.sat_engine.proofs.KeepLemmas.{get_below, at_get}
 use Rattle.sat_engine.proofs.SearchLemmas.{known_place}
-use Rattle.sat_engine.proofs.StepLemmas.{known_get}
 
 no_lits : (c : Clause) → ((l : Lit) → In l c → ⊥) → c ≡ []
 no_lits [] never = refl

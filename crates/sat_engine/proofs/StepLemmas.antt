@@ -1,13 +1,11 @@
 -- The jump of a lesson, and how long its line is.
-use Rattle.std.proofs.Common.{◌≡◌, ◌≢◌, ℕ, zero, suc, ◌+◌, ◌-◌, ◌<◌, ◌≤◌, ◌==◌, List, [], ◌∷◌, ◌++◌, length, max, Option, Some, None, IsSomeAnd, slice_get, refl, sym, ap, ◌∙◌, inl, inr, arith}
-use Rattle.sat_engine.specs.Steps.{IsWithin}
-use Rattle.proof_check.specs.Progress.{IsKnown}
+use Rattle.std.proofs.Common.{◌≡◌, ◌≢◌, ℕ, zero, suc, ◌+◌, ◌-◌, ◌<◌, ◌≤◌, List, [], ◌∷◌, ◌++◌, length, max, Option, Some, None, IsSomeAnd, slice_get, refl, sym, ap, ◌∙◌, inl, inr, arith}
 use Rattle.proof_check.specs.Following.{Live, first_live, HintsLead, IsUnit, AllFalse}
-use Rattle.std.proofs.lemmas.Bool.{cases_lt, cases_Bool, ne_eqb}
+use Rattle.std.proofs.lemmas.Bool.{cases_lt, ne_eqb}
 use Rattle.std.proofs.lemmas.List.Sums.{sum_by-append}
 use Rattle.clause_arena.specs.Clauses.{Lit, opposite, Clause, In, HasEachVariableOnce}
 use Rattle.sat_trail.specs.Trails.{TrailState, entry_at, IsAssigned, lit_at, IsAt}
-use Rattle.sat_engine.proofs.BoundLemmas.{LiveWithin, leads_few}
+use Rattle.sat_engine.proofs.BoundLemmas.{leads_few, first_within}
 use Rattle.clause_arena.specs.Arenas.{clause_at, literals}
 use Rattle.proof_check.specs.Lines.{ArePositive}
 use Rattle.sat_trail.proofs.TrailLemmas.{in_at}
@@ -64,19 +62,8 @@ jump_more t x y c jump level ne q at here low far = record {
     in_last [] y = inl refl
     in_last (l ∷ c) y = inr (in_last c y)
 
-pub known_get : (cs : List Clause) (k : ℕ) (c : Clause) → slice_get cs k ≡ Some c → IsKnown c cs
-known_get [] k c e = absurd (let s : None ≡ Some c = e in cc)
-known_get (d ∷ cs) zero c e = inl (let s : Some d ≡ Some c = e in cc)
-known_get (d ∷ cs) (suc k) c e = inr (known_get cs k c e)
-
 pub first_are : (clauses : List Clause) → LiveAre (first_live clauses) clauses
 first_are clauses k c e = (c, rw (ne_eqb (suc k) 0 (omega arith)) (ap (slice_get clauses) (let s : suc k - 1 ≡ k = omega arith in s) ∙ e), λ l. (λ i. i, λ i. i))
-
-first_within : (clauses : List Clause) (n : ℕ) → IsWithin clauses n → LiveWithin (first_live clauses) n
-first_within clauses n within id c e = elim (cases_Bool (id == 0)) [
-  | inl none ↦ absurd (let s : None ≡ Some c = rw none at e in cc)
-  | inr some ↦ let s : slice_get clauses (id - 1) ≡ Some c = rw some at e in within c (known_get clauses (id - 1) c s)
-]
 
 -- a lesson's line is short
 pub lesson_short : (clauses : List Clause) (t : TrailState) (x : Lit) (lits : List Lit) (hints : List ℕ) → IsSearching clauses t → IsLesson clauses t x lits hints → length lits + length hints ≤ t.variables + 1

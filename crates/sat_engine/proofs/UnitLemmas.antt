@@ -1,5 +1,6 @@
 -- The clauses of one literal.
 use Rattle.std.proofs.Common.{◌≡◌, ◌≢◌, ℕ, ◌+◌, ◌<◌, ◌≤◌, List, [], ◌∷◌, ◌++◌, take, length, Some, slice_get, refl, sym, ap, ◌∙◌, subst, inl, inr, arith, length-append}
+use Rattle.sat_engine.proofs.PlaceLemmas.{true_at}
 use Rattle.sat_engine.specs.Steps.{IsWithin}
 use Rattle.sat_trail.specs.Propagation.{IsFalseIn}
 use Rattle.std.proofs.lemmas.Bool.{cases_eq}
@@ -12,7 +13,6 @@ use Rattle.sat_engine.specs.Findings.{HasReason}
 use Rattle.sat_engine.specs.Searches.{AreExplained, IsSearching, AreListed}
 use Rattle.sat_engine.specs.Copies.{IsLoaded}
 use Rattle.sat_engine.specs.Units.{AreUnitsTrueTo, AreUnitsTrue}
-use Rattle.sat_engine.proofs.PlaceLemmas.{true_place}
 use Rattle.sat_engine.proofs.JumpLemmas.{last_part, more_true}
 use Rattle.sat_engine.proofs.KeepLemmas.{explained_grow, at_get, get_below}
 
@@ -29,7 +29,7 @@ unit_false c l T e i f m j = subst (λ q. In (opposite q) T) (sym (only_one c l 
 
 -- at level 0 all that is true is true by level 0
 pub ground_true : (t : TrailState) (l : Lit) → IsTrail t → t.level ≡ 0 → In l (true_lits t.entries) → IsTrueBy t.entries 0 l
-ground_true t l trail ground i = let p = true_place t.entries l i in (p.0, p.1, omega (arith, trail.below p.0 p.1.0, ground))
+ground_true t l trail ground i = let p = true_at t.entries l i in (p.0, p.1, omega (arith, trail.below p.0 p.1.0, ground))
 
 module _ (clauses : List Clause) (t new : TrailState) (l : Lit) (id : ℕ) (is : new ≡ record t { entries = t.entries ++ (record { lit = l; level = t.level; reason = Some id }) ∷ [] }) (ground : t.level ≡ 0) where
   abbrev e : Entry

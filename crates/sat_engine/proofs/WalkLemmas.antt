@@ -6,13 +6,13 @@ use Rattle.std.proofs.lemmas.Bool.{cases_eq, cases_lt}
 use Rattle.std.proofs.lemmas.List.{reverse-append}
 use Rattle.clause_arena.specs.Clauses.{Lit, opposite, Clause, In}
 use Rattle.sat_trail.specs.Trails.{Entry, TrailState, entry_at, no_entry, true_lits, IsTrail, IsTrueBy, IsAt, IsAssigned}
-use Rattle.sat_trail.proofs.LitLemmas.{opposite_twice}
+use Rattle.sat_trail.proofs.LitLemmas.{opposite_twice, same_lit}
 use Rattle.clause_arena.specs.Arenas.{clause_at}
 use Rattle.sat_engine.specs.Findings.{HasReason}
 use Rattle.sat_engine.specs.Searches.{AreExplained, AreFilled, AreQuietBelow}
 use Rattle.sat_engine.specs.Lessons.{SeenAt, IsTrueLit, IsCut, IsLesson, IsClear, IsPoint, Analysing, IsReason, IsMarked, Gathers, MarksAll, Walking, Touches, IsUnmarked, IsSameAbove, flag}
 use Rattle.sat_engine.proofs.LessonLemmas.{one_place, at_one, consistent, start, resolve, finish}
-use Rattle.sat_engine.proofs.PlaceLemmas.{true_place, in_split, same_lit}
+use Rattle.sat_engine.proofs.PlaceLemmas.{in_split, true_at}
 use Rattle.sat_trail.proofs.TrailLemmas.{in_more, in_last}
 use Rattle.sat_engine.proofs.MarkLemmas.{less_other, less_here, less_var, less_count, once_push, two_open, none_open, one_open}
 
@@ -38,7 +38,7 @@ module _ (clauses : List Clause) (t : TrailState) (trail : IsTrail t) where
             clause = get_is clauses id (omega (arith, h.2, at));
             holds = subst (λ q. In (entry_at t.entries p).lit (clause_at clauses q)) at h.3;
             others = λ m i ne.
-                let f = true_place (take p t.entries) (opposite m) (h.4 m (subst (λ q. In m (clause_at clauses q)) (sym at) i) ne) in
+                let f = true_at (take p t.entries) (opposite m) (h.4 m (subst (λ q. In m (clause_at clauses q)) (sym at) i) ne) in
                 let n : length (take p t.entries) ≡ p = length-take-le p t.entries (omega (arith, pl)) in
                 let fl : f.0 < p = omega (arith, f.1.0, n) in
                 (f.0, (omega (arith, fl, pl), sym (ap (λ (x : Entry). x.lit) (get_or-take p t.entries f.0 no_entry fl)) ∙ f.1.1), fl);
@@ -188,7 +188,7 @@ module _ (clauses : List Clause) (t : TrailState) (trail : IsTrail t) where
       (start t trail clauses new others id (clause_at clauses id) (get_is clauses id idl) cut all.gathers owned (all.same_length ∙ fits))
     where
       cut : (m : Lit) → In m (clause_at clauses id) → IsCut t.entries new m
-      cut m i = let p = true_place t.entries (opposite m) (false_in m i) in (p.0, p.1, all.come p.0 m p.1.0 i p.1.1)
+      cut m i = let p = true_at t.entries (opposite m) (false_in m i) in (p.0, p.1, all.come p.0 m p.1.0 i p.1.1)
 
       owned : (v : ℕ) → 0 < v → flag new v ≡ true → IsAssigned t.entries v
       owned v vpos e = elim (all.owned v vpos e) [ inl old ↦ absurd (let no : true ≡ false = sym old ∙ clear v vpos in cc) | inr it ↦ it ]
@@ -300,7 +300,7 @@ unmark_more old mid c x pos fits before v vpos e = elim (cases_eq v x.var) [
 
 -- a conflict above level 0 holds a literal of its level
 pub touches : (clauses : List Clause) (t : TrailState) (id : ℕ) → IsTrail t → 0 < t.level → id < length clauses → AreFilled clauses → AreQuietBelow clauses t.entries t.level → IsFalseIn (clause_at clauses id) (true_lits t.entries) → Touches t (clause_at clauses id)
-touches clauses t id trail up idl filled quiet false_in = elim (look (clause_at clauses id) (λ m i. true_place t.entries (opposite m) (false_in m i))) [
+touches clauses t id trail up idl filled quiet false_in = elim (look (clause_at clauses id) (λ m i. true_at t.entries (opposite m) (false_in m i))) [
   | inl found ↦ found
   | inr low ↦ absurd (none (clause_at clauses id) (filled id (clause_at clauses id) (get_is clauses id idl)) (get_is clauses id idl) low)
 ]

@@ -7,8 +7,8 @@ use Rattle.sat_trail.specs.Propagation.{OthersFalseIn, IsQuiet}
 use Rattle.clause_arena.specs.Arenas.{clause_at}
 
 -- each literal is of a variable of the trail
-abbrev pub AreWithin : List Clause → ℕ → Type 0
-AreWithin clauses n = (k : ℕ) → k < length clauses → All (λ l. l.var ≤ n) (clause_at clauses k)
+abbrev pub AllWithin : List Clause → ℕ → Type 0
+AllWithin clauses n = (k : ℕ) → k < length clauses → All (λ l. l.var ≤ n) (clause_at clauses k)
 
 -- each literal is of one of so many variables
 abbrev pub ClauseWithin : Clause → ℕ → Type 0

@@ -9,7 +9,7 @@ use Rattle.clause_arena.specs.Arenas.{literals}
 use Rattle.sat_trail.specs.Trails.{Entry, TrailState, entry_at, IsTrail, IsAt, IsTrueBy, IsAssigned}
 use Rattle.sat_engine.specs.Steps.{added, CountsFrom}
 use Rattle.sat_engine.specs.Findings.{HasReason}
-use Rattle.watch_lists.specs.Watching.{Watching, listed}
+use Rattle.watch_lists.specs.Watching.{Watching, listed, ArePending}
 
 -- the two clauses have the same literals
 abbrev pub IsSameSet : Clause → Clause → Type 0
@@ -42,10 +42,6 @@ AreIds w clauses = (k : ℕ) → IsAttached w k → k < length clauses
 -- a clause that isn't attached holds a literal in both signs, or one that is true at level 0
 abbrev pub IsWatchedOrTrue : Watching → List Entry → ℕ → Clause → Type 0
 IsWatchedOrTrue w entries k c = IsAttached w k ⊎ ((l : Lit) × In l c × In (opposite l) c) ⊎ ((l : Lit) × In l c × IsTrueBy entries 0 l)
-
--- every literal that was not given out is of the present level
-abbrev pub ArePending : TrailState → Type 0
-ArePending t = (p : ℕ) → t.given ≤ p → p < length t.entries → (entry_at t.entries p).level ≡ t.level
 
 -- what the search keeps of its clauses and the trail
 pub record IsSearching (clauses : List Clause) (t : TrailState) : Type 0 where

@@ -12,7 +12,7 @@ ghost use Rattle.sat_engine.specs.Searches.{AreExplained, AreFilled, AreQuietBel
 ghost use Rattle.sat_trail.specs.Trails.{entry_at, true_lits, lit_at};
 ghost use Rattle.clause_arena.specs.Clauses.{opposite, In};
 ghost use Rattle.clause_arena.specs.Arenas.{clause_at};
-ghost use Rattle.sat_engine.specs.Findings.{ClauseWithin, AreWithin};
+ghost use Rattle.sat_engine.specs.Findings.{ClauseWithin, AllWithin};
 
 use crate::workspace::Workspace;
 use clause_arena::{ClauseArena, Lit};
@@ -77,7 +77,7 @@ pub fn mark(
 pub fn resolve_zeros(arena: &ClauseArena, trail: &Trail, work: &mut Workspace) -> Result<(), Memory>
     requires few { length arena.now.clauses < 2 ^ 31 }
     requires short { (k : ℕ) → k < length arena.now.clauses → length (clause_at arena.now.clauses k) < 2 ^ 31 }
-    requires within { AreWithin arena.now.clauses trail.now.variables }
+    requires within { AllWithin arena.now.clauses trail.now.variables }
     requires explained { AreExplained arena.now.clauses trail.now.entries }
     requires analysing { Analysing arena.now.clauses trail.now work.old.seen.items 0 (length trail.now.entries) work.old.lits.items (reverse work.old.hints.items) }
     ensures analysing { IfOk result (λ _. Analysing arena.now.clauses trail.now work.new.seen.items 0 0 work.new.lits.items (reverse work.new.hints.items)) }
@@ -111,7 +111,7 @@ pub fn walk(
     requires few { length arena.now.clauses < 2 ^ 31 }
     requires few_variables { trail.now.variables < 2 ^ 31 }
     requires short { (k : ℕ) → k < length arena.now.clauses → length (clause_at arena.now.clauses k) < 2 ^ 31 }
-    requires within { AreWithin arena.now.clauses trail.now.variables }
+    requires within { AllWithin arena.now.clauses trail.now.variables }
     requires flags { length work.old.seen.items ≡ trail.now.variables }
     requires clear { IsClear work.old.seen.items }
     requires no_lits { work.old.lits.items ≡ [] }
@@ -174,7 +174,7 @@ pub fn analyse(
     requires few { length arena.now.clauses < 2 ^ 31 }
     requires few_variables { trail.now.variables < 2 ^ 31 }
     requires short { (k : ℕ) → k < length arena.now.clauses → length (clause_at arena.now.clauses k) < 2 ^ 31 }
-    requires within { AreWithin arena.now.clauses trail.now.variables }
+    requires within { AllWithin arena.now.clauses trail.now.variables }
     requires filled { AreFilled arena.now.clauses }
     requires flags { length work.old.seen.items ≡ trail.now.variables }
     requires clear { IsClear work.old.seen.items }
@@ -211,7 +211,7 @@ pub fn analyse_ground(
 ) -> Result<(), Memory>
     requires few { length arena.now.clauses < 2 ^ 31 }
     requires short { (k : ℕ) → k < length arena.now.clauses → length (clause_at arena.now.clauses k) < 2 ^ 31 }
-    requires within { AreWithin arena.now.clauses trail.now.variables }
+    requires within { AllWithin arena.now.clauses trail.now.variables }
     requires flags { length work.old.seen.items ≡ trail.now.variables }
     requires clear { IsClear work.old.seen.items }
     requires explained { AreExplained arena.now.clauses trail.now.entries }

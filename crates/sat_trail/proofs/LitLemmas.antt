@@ -1,5 +1,6 @@
 -- Literals, their complements and their codes.
 use Rattle.std.proofs.Common.{◌≡◌, ◌≢◌, ◌⊎◌, ℕ, ◌+◌, ◌*◌, ◌<◌, ◌≤◌, Bool, true, false, not, if◌then◌else◌, refl, sym, ap, ◌∙◌, inl, inr, arith}
+use Rattle.std.proofs.lemmas.Bool.{cases_eq}
 use Rattle.clause_arena.specs.Clauses.{Lit, opposite}
 use Rattle.clause_arena.specs.Lits.{code_of}
 
@@ -24,6 +25,18 @@ same_var a b e = of_bits a.negated b.negated refl refl
     of_bits false false p q = inl (lit_same a b e (p ∙ sym q))
     of_bits true false p q = inr (lit_same a (opposite b) e (p ∙ sym (ap not q)))
     of_bits false true p q = inr (lit_same a (opposite b) e (p ∙ sym (ap not q)))
+
+pub same_lit : (a b : Lit) → (a ≡ b) ⊎ (a ≢ b)
+same_lit a b = elim (cases_eq a.var b.var) [
+  | inl v ↦ of_bits a.negated b.negated refl refl v
+  | inr v ↦ inr (λ e. v (ap (λ (l : Lit). l.var) e))
+]
+  where
+    of_bits : (x y : Bool) → a.negated ≡ x → b.negated ≡ y → a.var ≡ b.var → (a ≡ b) ⊎ (a ≢ b)
+    of_bits true true p q v = inl (lit_same a b v (p ∙ sym q))
+    of_bits false false p q v = inl (lit_same a b v (p ∙ sym q))
+    of_bits true false p q v = inr (λ e. let n : a.negated ≡ b.negated = ap (λ (l : Lit). l.negated) e in cc)
+    of_bits false true p q v = inr (λ e. let n : a.negated ≡ b.negated = ap (λ (l : Lit). l.negated) e in cc)
 
 abbrev pub bit : Bool → ℕ
 bit b = if b then 1 else 0

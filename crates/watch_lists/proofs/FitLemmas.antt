@@ -12,7 +12,7 @@ use Rattle.sat_trail.proofs.LitLemmas.{code_same, code_fits}
 use Rattle.watch_lists.specs.declared.link.Link.{Link}
 use Rattle.watch_lists.specs.Chains.{Has, AreLists}
 use Rattle.watch_lists.specs.Watched.{next_at, other_at, own_at, own_code, sibling, place_of, IsNode, IsListed, AreOfDifferentVariables, AreTied, AreFitting, IsCovered, AreSameListed, IsLinked, ArePendingFrom}
-use Rattle.watch_lists.specs.Steps.{IsAttached, AreFit, IsExtended, IsRun}
+use Rattle.watch_lists.specs.Steps.{AreFit, IsExtended, IsRun, IsLinkedClause}
 use Rattle.watch_lists.specs.Watching.{listed, reserved, pair_of, pair_at, pairs_from, view_of, AreKept, IsFit, IsFitBelow, IsCoveredBelow, AreSameAttached, IsGrown, IsOutcome}
 use Rattle.watch_lists.specs.declared.propagation.Propagation.{Propagation}
 use Rattle.watch_lists.specs.declared.propagation.Propagation.TheVariants.{Done, Conflict}
@@ -238,7 +238,7 @@ attached_same heads v r links links2 even whole same = record {
   ]) ∙ sym (ap is_some (listed_is heads links r k whole));
 }
 
-pub attached_some : (heads : ℕ) (links : List Link) (r id : ℕ) → length links ≡ heads + 2 * r → IsAttached heads links id → IsSome (listed (view_of heads links) id)
+pub attached_some : (heads : ℕ) (links : List Link) (r id : ℕ) → length links ≡ heads + 2 * r → IsLinkedClause heads links id → IsSome (listed (view_of heads links) id)
 attached_some heads links r id whole n = subst (λ q. IsSome q) (sym (listed_is heads links r id whole ∙ pair_listed _ (other_at links (heads + 2 * id + 1)) (other_at links (heads + 2 * id)) n.2)) refl
 
 pub grown_out : (heads : ℕ) (links : List Link) (clauses : List Clause) (r : ℕ) (old new : TrailState) → length links ≡ heads + 2 * r → old.given ≤ new.given → IsExtended heads links clauses old new → IsGrown (view_of heads links) clauses old new

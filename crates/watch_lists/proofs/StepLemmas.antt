@@ -12,7 +12,7 @@ use Rattle.sat_trail.proofs.LitLemmas.{code_same, code_fits}
 use Rattle.watch_lists.specs.declared.link.Link.{Link}
 use Rattle.watch_lists.specs.Chains.{Has, AreApart}
 use Rattle.watch_lists.specs.Watched.{next_at, other_at, sibling, place_of, IsNode, IsVisiting, AreSameListed, IsRelinked, IsReplacement, ArePendingFrom, count_left, AreRearranged}
-use Rattle.watch_lists.specs.Steps.{IsAttached, AtNode, AtList, AreFit, HasReason, IsSameOrMore, IsExtended, IsFalseClause}
+use Rattle.watch_lists.specs.Steps.{AtNode, AtList, AreFit, IsSameOrMore, IsExtended, IsFalseClause, IsLinkedClause, HasLinkedReason}
 use Rattle.watch_lists.proofs.ChainLemmas.{has_left, end_has, apart_not}
 use Rattle.watch_lists.proofs.SwapLemmas.{in_place, same_sets}
 use Rattle.watch_lists.proofs.TrailFacts.{entry_before, entry_last}
@@ -66,7 +66,7 @@ module _ (heads : ℕ) (links : List Link) (clauses : List Clause) (t : TrailSta
       of_end (inl h) = let high = v.high in omega (arith, node_is.0, e, h, high)
       of_end (inr i) = apart_not at.1 at.2 m (subst AreApart v.split (v.fitting.are.apart (code_of a) v.low v.high)) (has_left at.1 at.2 m (subst (λ q. Has q at.1) e i))
 
-  pub attached_by : IsAttached heads links (place_of heads m)
+  pub attached_by : IsLinkedClause heads links (place_of heads m)
   attached_by =
       let n = node_is in
       let s = sib_node heads t.variables links clauses v.fitting.tied m n in
@@ -161,7 +161,7 @@ pub at_last : (heads : ℕ) (links : List Link) (clauses : List Clause) (t : Tra
 at_last heads links clauses t a before at e = ((at.0, visit_done heads links clauses t a before at.0 at.1 at.2 at.3 e), λ p from below. at.3.pending p (omega (arith, from)) below)
 
 -- what a reason says of the clauses as they were
-pub reason_back : (heads : ℕ) (links links2 : List Link) (clauses clauses2 : List Clause) (entries : List Entry) (e : Entry) → AreRearranged clauses clauses2 → AreSameListed heads links links2 → HasReason heads links2 clauses2 entries e → HasReason heads links clauses entries e
+pub reason_back : (heads : ℕ) (links links2 : List Link) (clauses clauses2 : List Clause) (entries : List Entry) (e : Entry) → AreRearranged clauses clauses2 → AreSameListed heads links links2 → HasLinkedReason heads links2 clauses2 entries e → HasLinkedReason heads links clauses entries e
 reason_back heads links links2 clauses clauses2 entries e sets listed h =
     let low : h.0 < length clauses = omega (arith, h.3, sets.count) in
     let n = h.2 in

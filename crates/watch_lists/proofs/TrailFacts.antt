@@ -1,5 +1,5 @@
 -- What a trail says of its literals.
-use Rattle.std.proofs.Common.{◌≡◌, ◌≢◌, ◌⊎◌, ℕ, zero, suc, ◌<◌, ◌≤◌, Bool, true, false, not, List, [], ◌∷◌, ◌++◌, length, refl, sym, ap, ◌∙◌, inl, inr, arith, length-append}
+use Rattle.std.proofs.Common.{◌≡◌, ℕ, zero, suc, ◌<◌, ◌≤◌, Bool, true, false, not, List, [], ◌∷◌, ◌++◌, length, refl, sym, ap, ◌∙◌, inl, inr, arith, length-append}
 use Rattle.std.proofs.lemmas.Bool.{cases_eq, cases_lt}
 use Rattle.clause_arena.specs.Clauses.{Lit, opposite, In}
 use Rattle.sat_trail.specs.Trails.{Entry, TrailState, entry_at, true_lits, IsTrail, IsTrueBy}
@@ -69,18 +69,3 @@ covered_more entries e n x y fits cover p pn pl is =
     let r = cover p pn within (sym (ap (λ (q : Entry). q.lit) same) ∙ is) in
     let there = entry_before entries e r.0 r.1.0 in
     (r.0, (omega (arith, r.1.0, length-append entries (e ∷ [])), ap (λ (q : Entry). q.lit) there ∙ r.1.1), omega (arith, r.2, ap (λ (q : Entry). q.level) there, ap (λ (q : Entry). q.level) same))
-
-lit_same : (a b : Lit) → a.var ≡ b.var → a.negated ≡ b.negated → a ≡ b
-lit_same a b v n = ap (λ q. record { var = q; negated = a.negated }) v ∙ ap (λ q. record { var = b.var; negated = q }) n
-
-pub same_lit : (a b : Lit) → (a ≡ b) ⊎ (a ≢ b)
-same_lit a b = elim (cases_eq a.var b.var) [
-  | inl v ↦ of_bits a.negated b.negated refl refl v
-  | inr v ↦ inr (λ e. v (ap (λ (l : Lit). l.var) e))
-]
-  where
-    of_bits : (x y : Bool) → a.negated ≡ x → b.negated ≡ y → a.var ≡ b.var → (a ≡ b) ⊎ (a ≢ b)
-    of_bits true true p q v = inl (lit_same a b v (p ∙ sym q))
-    of_bits false false p q v = inl (lit_same a b v (p ∙ sym q))
-    of_bits true false p q v = inr (λ e. let n : a.negated ≡ b.negated = ap (λ (l : Lit). l.negated) e in cc)
-    of_bits false true p q v = inr (λ e. let n : a.negated ≡ b.negated = ap (λ (l : Lit). l.negated) e in cc)

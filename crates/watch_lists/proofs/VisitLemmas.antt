@@ -5,7 +5,7 @@ use Rattle.std.specs.List.{swap}
 use Rattle.std.proofs.lemmas.Bool.{cases_eq}
 use Rattle.clause_arena.specs.Clauses.{Lit, opposite, Clause, In}
 use Rattle.sat_trail.specs.Trails.{Entry, TrailState, entry_at, true_lits, IsTrail, lit_at}
-use Rattle.sat_trail.proofs.LitLemmas.{opposite_twice}
+use Rattle.sat_trail.proofs.LitLemmas.{opposite_twice, same_lit}
 use Rattle.clause_arena.specs.Lits.{code_of}
 use Rattle.clause_arena.specs.Arenas.{clause_at}
 use Rattle.sat_trail.proofs.LitLemmas.{code_same}
@@ -14,7 +14,7 @@ use Rattle.watch_lists.specs.Chains.{Has, AreApart, IsPath, moved_lists}
 use Rattle.watch_lists.specs.Watched.{next_at, other_at, sibling, own_at, own_code, place_of, IsNode, AreOfDifferentVariables, AreTied, IsCovered, AreFitting, IsVisiting, AreSameListed, IsRelinked, IsReplacement, count_left, AreRearranged}
 use Rattle.watch_lists.proofs.ChainLemmas.{has_left, has_right, has_cases, end_more, path_end, apart_few, steps_are, Relinks, lists_move, listed_stays, at_a}
 use Rattle.watch_lists.proofs.SwapLemmas.{place_in, in_place, at_first, at_else, swap_different, clause_here, clause_else, same_sets}
-use Rattle.watch_lists.proofs.TrailFacts.{true_place, place_true, consistent, true_by_level, entry_before, entry_last, true_more, true_last, covered_more, same_lit}
+use Rattle.watch_lists.proofs.TrailFacts.{true_place, place_true, consistent, true_by_level, entry_before, entry_last, true_more, true_last, covered_more}
 
 pub sib_twice : (n : ℕ) → sibling (sibling n) ≡ n
 sib_twice n = omega arith

@@ -12,8 +12,8 @@ use Rattle.watch_lists.specs.declared.propagation.Propagation.{Propagation}
 use Rattle.watch_lists.specs.declared.propagation.Propagation.TheVariants.{Done, Conflict}
 
 -- the clause has its two nodes in lists
-abbrev pub IsAttached : ℕ → List Link → ℕ → Type 0
-IsAttached heads links id = IsNode heads links (heads + 2 * id)
+abbrev pub IsLinkedClause : ℕ → List Link → ℕ → Type 0
+IsLinkedClause heads links id = IsNode heads links (heads + 2 * id)
 
 -- on the way through the list of a, behind `before`, at this node
 abbrev pub AtNode : ℕ → List Link → List Clause → TrailState → Lit → ℕ → ℕ → Type 0
@@ -28,12 +28,12 @@ abbrev pub AreFit : ℕ → List Link → List Clause → TrailState → ℕ →
 AreFit heads links clauses t n = (lists : ℕ → List ℕ) × AreFitting heads links clauses t n lists
 
 -- e came from an attached clause that holds it and whose other literals are false before it
-abbrev pub HasReason : ℕ → List Link → List Clause → List Entry → Entry → Type 0
-HasReason heads links clauses before e = (id : ℕ) × (e.reason ≡ Some id) × IsAttached heads links id × (id < length clauses) × In e.lit (clause_at clauses id) × OthersFalseIn (clause_at clauses id) (true_lits before) e.lit
+abbrev pub HasLinkedReason : ℕ → List Link → List Clause → List Entry → Entry → Type 0
+HasLinkedReason heads links clauses before e = (id : ℕ) × (e.reason ≡ Some id) × IsLinkedClause heads links id × (id < length clauses) × In e.lit (clause_at clauses id) × OthersFalseIn (clause_at clauses id) (true_lits before) e.lit
 
 -- the trail is as before, or one entry with a reason longer
 abbrev pub IsSameOrMore : ℕ → List Link → List Clause → TrailState → TrailState → Type 0
-IsSameOrMore heads links clauses old new = (new ≡ old) ⊎ ((e : Entry) × (new ≡ record old { entries = old.entries ++ e ∷ [] }) × (e.level ≡ old.level) × HasReason heads links clauses old.entries e)
+IsSameOrMore heads links clauses old new = (new ≡ old) ⊎ ((e : Entry) × (new ≡ record old { entries = old.entries ++ e ∷ [] }) × (e.level ≡ old.level) × HasLinkedReason heads links clauses old.entries e)
 
 -- the trail grew by entries of the present level, each with its reason
 pub record IsExtended (heads : ℕ) (links : List Link) (clauses : List Clause) (old new : TrailState) : Type 0 where
@@ -41,11 +41,11 @@ pub record IsExtended (heads : ℕ) (links : List Link) (clauses : List Clause) 
   pub appended : new.entries ≡ old.entries ++ more
   pub level : new.level ≡ old.level
   pub variables : new.variables ≡ old.variables
-  pub reasons : (p : ℕ) → length old.entries ≤ p → p < length new.entries → ((entry_at new.entries p).level ≡ old.level) × HasReason heads links clauses (take p new.entries) (entry_at new.entries p)
+  pub reasons : (p : ℕ) → length old.entries ≤ p → p < length new.entries → ((entry_at new.entries p).level ≡ old.level) × HasLinkedReason heads links clauses (take p new.entries) (entry_at new.entries p)
 
 -- an attached clause is false throughout
 abbrev pub IsFalseClause : ℕ → List Link → List Clause → TrailState → ℕ → Type 0
-IsFalseClause heads links clauses t id = IsAttached heads links id × (id < length clauses) × IsFalseIn (clause_at clauses id) (true_lits t.entries)
+IsFalseClause heads links clauses t id = IsLinkedClause heads links id × (id < length clauses) × IsFalseIn (clause_at clauses id) (true_lits t.entries)
 
 -- what is so after each outcome of a step; a step that goes on leaves one node less
 abbrev pub IsStep : ℕ → List Link → List Clause → TrailState → Lit → ℕ → ℕ → ℕ → Step → Type 0

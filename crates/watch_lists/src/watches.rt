@@ -105,6 +105,7 @@ impl Watches {
         ensures attached { listed self.new id ≡ Some (lit_at (clause_at arena.now.clauses id) 0, lit_at (clause_at arena.now.clauses id) 1) }
         ensures others { (k : ℕ) → k ≢ id → listed self.new k ≡ listed self.old k }
     {
+        // These calls tell the proof that the trail is one, and that no code is below 2.
         let _valid = trail.len();
         let clause = arena.clause(id);
         let first = clause[0];
@@ -125,6 +126,7 @@ impl Watches {
         ensures valid { IsTrail trail.new }
         ensures outcome { IsOutcome self.new arena.new.clauses trail.new result }
     {
+        // This call tells the proof that the trail is one.
         let _valid = trail.len();
         run(&mut self.links, self.heads, arena, trail)
     }

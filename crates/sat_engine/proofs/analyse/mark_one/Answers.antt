@@ -1,9 +1,10 @@
 use Rattle.std.proofs.Common.{◌≡◌, ◌≢◌, ◌-◌, ◌<◌, false, length, sym, ap, ◌∙◌, arith}
+use Rattle.sat_engine.proofs.PlaceLemmas.{true_at}
+use Rattle.watch_lists.proofs.TrailFacts.{place_true}
 use Rattle.std.proofs.lemmas.List.{get_or_read}
 use Rattle.clause_arena.specs.Clauses.{Lit, opposite, In}
 use Rattle.sat_trail.specs.Trails.{entry_at, true_lits}
 use Rattle.sat_engine.specs.Lessons.{flag}
-use Rattle.sat_engine.proofs.PlaceLemmas.{true_place, place_true}
 use Rattle.sat_engine.proofs.LessonLemmas.{consistent}
 use Rattle.sat_engine.proofs.MarkLemmas.{mark_level, mark_zero, mark_lower, mark_none}
 use Rattle.sat_engine.proofs.analyse.mark_one.Goals as goal
@@ -11,13 +12,13 @@ use Rattle.sat_engine.proofs.analyse.mark_one.Goals as goal
 pub level_of-requires : goal.level_of-requires
 level_of-requires c =
     let i : In (opposite c.args.lit) (true_lits c.args.trail.now.entries) = (let h = rw c.in-Some-false.field-0-test at c.in-Some-false.ensures in h) in
-    let p = true_place c.args.trail.now.entries (opposite c.args.lit) i in
+    let p = true_at c.args.trail.now.entries (opposite c.args.lit) i in
     (p.0, p.1.0, ap (λ (l : Lit). l.var) p.1.1 ∙ sym c.var-var.ensures.same)
 
 pub level_of-requires-else-level_of-level : goal.level_of-requires-else-level_of-level
 level_of-requires-else-level_of-level c =
     let i : In (opposite c.args.lit) (true_lits c.args.trail.now.entries) = (let h = rw c.in-Some-false.field-0-test at c.in-Some-false.ensures in h) in
-    let p = true_place c.args.trail.now.entries (opposite c.args.lit) i in
+    let p = true_at c.args.trail.now.entries (opposite c.args.lit) i in
     (p.0, p.1.0, ap (λ (l : Lit). l.var) p.1.1 ∙ sym c.var-var.ensures.same)
 
 pub returns-then-level_of-level : goal.returns-then-level_of-level
@@ -25,7 +26,7 @@ returns-then-level_of-level c =
     let t = c.args.trail.now in
     let seen = c.args.seen.now.items in
     let i : In (opposite c.args.lit) (true_lits t.entries) = (let h = rw c.in-Some-false.field-0-test at c.in-Some-false.ensures in h) in
-    let p = true_place t.entries (opposite c.args.lit) i in
+    let p = true_at t.entries (opposite c.args.lit) i in
     let fits : length seen ≡ t.variables = omega (arith, c.args.seen.now.ok.0) in
     let w = c.len-count.ensures.valid.within p.0 p.1.0 in
     let v : (entry_at t.entries p.0).lit.var ≡ c.args.lit.var = ap (λ (l : Lit). l.var) p.1.1 in
@@ -39,7 +40,7 @@ returns-then-level_of-eq0 c =
     let t = c.args.trail.now in
     let seen = c.args.seen.now.items in
     let i : In (opposite c.args.lit) (true_lits t.entries) = (let h = rw c.in-Some-false.field-0-test at c.in-Some-false.ensures in h) in
-    let p = true_place t.entries (opposite c.args.lit) i in
+    let p = true_at t.entries (opposite c.args.lit) i in
     let fits : length seen ≡ t.variables = omega (arith, c.args.seen.now.ok.0) in
     let w = c.len-count.ensures.valid.within p.0 p.1.0 in
     let v : (entry_at t.entries p.0).lit.var ≡ c.args.lit.var = ap (λ (l : Lit). l.var) p.1.1 in
@@ -54,7 +55,7 @@ returns-in_ok-push c =
     let t = c.args.trail.now in
     let seen = c.args.seen.now.items in
     let i : In (opposite c.args.lit) (true_lits t.entries) = (let h = rw c.in-Some-false.field-0-test at c.in-Some-false.ensures in h) in
-    let p = true_place t.entries (opposite c.args.lit) i in
+    let p = true_at t.entries (opposite c.args.lit) i in
     let fits : length seen ≡ t.variables = omega (arith, c.args.seen.now.ok.0) in
     let w = c.len-count.ensures.valid.within p.0 p.1.0 in
     let v : (entry_at t.entries p.0).lit.var ≡ c.args.lit.var = ap (λ (l : Lit). l.var) p.1.1 in
@@ -67,7 +68,7 @@ returns-in_ok-push c =
 pub returns-in_default : goal.returns-in_default
 returns-in_default c = mark_none _ _ _ _ c.requires.gathers (λ q ql e.
     let i : In c.args.lit (true_lits c.args.trail.now.entries) = (let h = rw c.in_default.field-0-test at c.in_default.ensures in h) in
-    absurd (consistent c.args.trail.now c.len-count.ensures.valid c.args.lit (true_place _ _ i) (q, (ql, e))))
+    absurd (consistent c.args.trail.now c.len-count.ensures.valid c.args.lit (true_at _ _ i) (q, (ql, e))))
 
 pub returns-in_default-2 : goal.returns-in_default-2
 returns-in_default-2 c = mark_none _ _ _ _ c.requires.gathers (λ q ql e. absurd (c.in_default.ensures.1 (place_true _ q _ ql e)))
