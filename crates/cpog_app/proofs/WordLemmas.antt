@@ -12,7 +12,7 @@ use Rattle.std.proofs.lemmas.Slice.Eq.{bytes_eq-Decides}
 use Rattle.cpog_app.specs.declared.words.Command.{Command}
 use Rattle.cpog_app.specs.declared.words.Command.TheVariants as command
 use Rattle.cpog_app.specs.declared.words.SaidOptions.{SaidOptions}
-use Rattle.cpog_app.specs.Words.{is_number_within, number_within, bits_in, bits_alone, either_said, joined, unsaid, options_in, settled, synth_in, normal_in, cnf_over, cnf_of, cnf_in, command_of}
+use Rattle.cpog_app.specs.Words.{is_number_within, number_within, bits_in, bits_alone, either_said, joined, unsaid, options_in, settled, synth_in, normal_in, lrat_in, cnf_over, cnf_of, cnf_in, command_of}
 use Rattle.cpog_app.specs.Bits.{MayBeSaid, MayBeNamed}
 
 -- ---- numbers
@@ -104,6 +104,10 @@ normal_may : (words : List (List ℕ)) (c : Command) → normal_in words ≡ Som
 normal_may [] c f = subst MayBeNamed (same_Some command.Normal c f) tt
 normal_may (word ∷ words) c f = absurd (none-some c f)
 
+lrat_may : (words : List (List ℕ)) (c : Command) → lrat_in words ≡ Some c → MayBeNamed c
+lrat_may [] c f = subst MayBeNamed (same_Some command.Lrat c f) tt
+lrat_may (word ∷ words) c f = absurd (none-some c f)
+
 over_may : (gates : ℕ) (bits : Option ℕ) (c : Command) → gates ≤ 4096 → MayBeSaid 1 bits → cnf_over gates bits ≡ Some c → MayBeNamed c
 over_may gates None c few may f = subst MayBeNamed (same_Some (command.Cnf (record { gates = gates; bits = None })) c f) (record { few_gates = few; bits = tt })
 over_may gates (Some zero) c few may f = absurd (omega (arith, may.0))
@@ -125,11 +129,12 @@ cnf_may (word ∷ words) c f = over (number_within 0 4096 word) refl f
 -- what words name may be named
 pub may_be_named : (words : List (List ℕ)) (c : Command) → command_of words ≡ Some c → MayBeNamed c
 may_be_named [] c e = absurd (none-some c e)
-may_be_named (word ∷ words) c e = named _ _ _ e
+may_be_named (word ∷ words) c e = named _ _ _ _ e
   where
-    named : (synth normal cnf : Bool) →
-        (if synth then synth_in words else (if normal then normal_in words else (if cnf then cnf_in words else None))) ≡ Some c → MayBeNamed c
-    named true normal cnf f = synth_may words c f
-    named false true cnf f = normal_may words c f
-    named false false true f = cnf_may words c f
-    named false false false f = absurd (none-some c f)
+    named : (synth normal cnf lrat : Bool) →
+        (if synth then synth_in words else (if normal then normal_in words else (if cnf then cnf_in words else (if lrat then lrat_in words else None)))) ≡ Some c → MayBeNamed c
+    named true normal cnf lrat f = synth_may words c f
+    named false true cnf lrat f = normal_may words c f
+    named false false true lrat f = cnf_may words c f
+    named false false false true f = lrat_may words c f
+    named false false false false f = absurd (none-some c f)

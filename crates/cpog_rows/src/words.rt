@@ -9,7 +9,7 @@ const USAGE: &[u8] =
 
 #[test]
 fn other_words_print_the_usage_line(rt: HostRuntime) -> Result<(), Fail> {
-    let table: [&[&str]; 16] = [
+    let table: [&[&str]; 17] = [
         &[],
         &["help"],
         &["Synth"],
@@ -26,6 +26,7 @@ fn other_words_print_the_usage_line(rt: HostRuntime) -> Result<(), Fail> {
         &["normal", "--bits", "2"],
         &["normal", "x"],
         &["Normal"],
+        &["lrat", "x"],
     ];
     for words in table {
         let ending = run(rt.alloc(), words, b"scenario A = a\n")?;
