@@ -1,5 +1,5 @@
 -- A formula and a log have one answer.
-use Rattle.std.proofs.Common.{◌≡◌, ℕ, zero, suc, ◌<◌, ◌≤◌, ◌⊎◌, List, [], ◌∷◌, length, refl, sym, ap, ap₂, ◌∙◌, subst, arith, inl, inr}
+use Rattle.std.proofs.Common.{◌≡◌, ℕ, zero, suc, ◌<◌, ◌≤◌, List, [], ◌∷◌, length, sym, ap, ap₂, ◌∙◌, subst, arith, inl, inr}
 use Rattle.std.specs.Prelude.{take}
 use Rattle.std.proofs.lemmas.Bool.{cases_lt}
 use Rattle.clause_arena.specs.Clauses.{Clause}
@@ -11,7 +11,6 @@ use Rattle.dimacs_text.proofs.OneTextLemmas.{one_joined}
 use Rattle.proof_check.specs.Lines.{Line, line_at}
 use Rattle.proof_check.specs.Following.{Live, after, first_live, live_after, AllFollow, LineFollows, HasEmpty, Refutes, IsFirstBreak}
 use Rattle.proof_check.proofs.RefuteLemmas.{breaks_not, one_break}
-use Rattle.text_rows.specs.FirstBad.{IsFirstBad}
 use Rattle.text_rows.specs.Lines.{free_lines}
 use Rattle.text_rows.proofs.WritingLemmas.{bad_lines_told}
 use Rattle.cpog_app.specs.declared.refusal.Refusal.TheVariants as refusal
@@ -139,12 +138,12 @@ module _ (bytes : List ℕ) where
   lrat_answers_agree =
       one_either (either bad_row wide) (either (either broken no_empty) refuted)
       (one_either bad_row wide (one_at status.Text (IsBadRowAnswer bytes) one_row) (one_at status.Limit (IsWideAnswer bytes) one_wide)
-        (λ s t x y h k. not_bad x h.1 k.1.variables k.1.formula k.1.log k.1.spelled))
+      (λ s t x y h k. not_bad x h.1 k.1.variables k.1.formula k.1.log k.1.spelled))
       (one_either (either broken no_empty) refuted
-        (one_either broken no_empty (one_at status.No (IsBreakAnswer bytes) one_broken) (one_at status.No (IsOpenAnswer bytes) one_open)
-          (λ s t x y h k. break_or x h.1 k.1.variables k.1.formula k.1.log k.1.spelled k.1.follow))
-        (one_at status.Ok (IsRefutedAnswer bytes) one_refuted)
-        (λ s t x y h k. no_or_refuted s x h k.1.variables k.1.formula k.1.log k.1.spelled k.1.refutes))
+      (one_either broken no_empty (one_at status.No (IsBreakAnswer bytes) one_broken) (one_at status.No (IsOpenAnswer bytes) one_open)
+      (λ s t x y h k. break_or x h.1 k.1.variables k.1.formula k.1.log k.1.spelled k.1.follow))
+      (one_at status.Ok (IsRefutedAnswer bytes) one_refuted)
+      (λ s t x y h k. no_or_refuted s x h k.1.variables k.1.formula k.1.log k.1.spelled k.1.refutes))
       refused_or_checked
 
   -- bytes that spell a refutation are answered at status 0

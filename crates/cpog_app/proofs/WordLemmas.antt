@@ -79,12 +79,15 @@ options_may (option ∷ value ∷ words) said e = named _ e
     both : (bits : ℕ) (other : Option ℕ) → bits_in value ≡ Some bits → option_map (λ b. record { bits = b }) (either_said (Some bits) other) ≡ Some said → MayBeSaid 1 said.bits
     both bits None p f = subst (λ s. MayBeSaid 1 s.bits) (same_Some (bits_alone bits) said f) (said_within 1 8 value bits p)
     both bits (Some n) p f = absurd (none-some said f)
+
     behind : (bits : ℕ) (others : Option SaidOptions) → bits_in value ≡ Some bits → option_and_then (joined (bits_alone bits)) others ≡ Some said → MayBeSaid 1 said.bits
     behind bits None p f = absurd (none-some said f)
     behind bits (Some others) p f = both bits others.bits p f
+
     first : (bits : Option ℕ) → bits_in value ≡ bits → option_and_then (λ b. option_and_then (joined (bits_alone b)) (options_in words)) bits ≡ Some said → MayBeSaid 1 said.bits
     first None p f = absurd (none-some said f)
     first (Some bits) p f = behind bits (options_in words) p f
+
     named : (t : Bool) → (if t then option_and_then (λ b. option_and_then (joined (bits_alone b)) (options_in words)) (bits_in value) else None) ≡ Some said → MayBeSaid 1 said.bits
     named false f = absurd (none-some said f)
     named true f = first (bits_in value) refl f
@@ -122,6 +125,7 @@ cnf_may (word ∷ words) c f = over (number_within 0 4096 word) refl f
     with_said : (gates : ℕ) (said : Option SaidOptions) → gates ≤ 4096 → options_in words ≡ said → option_and_then (cnf_of gates) said ≡ Some c → MayBeNamed c
     with_said gates None few p f = absurd (none-some c f)
     with_said gates (Some said) few p f = over_may gates said.bits c few (options_may words said p) f
+
     over : (gates : Option ℕ) → number_within 0 4096 word ≡ gates → option_and_then (λ g. option_and_then (cnf_of g) (options_in words)) gates ≡ Some c → MayBeNamed c
     over None p f = absurd (none-some c f)
     over (Some gates) p f = with_said gates (options_in words) (said_within 0 4096 word gates p).1 refl f

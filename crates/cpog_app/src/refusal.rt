@@ -30,8 +30,8 @@ pub enum Refusal {
     Equal { later: Name, earlier: Name },
     /// There are more of something than this number.
     Limit { what: Counted, number: u32 },
-    /// This line of a log, counted from 1, is the first that doesn't follow, and this hint of it the first that breaks the rule. It
-    /// is 0 where the cause lies in no hint.
+    /// This line of a log is the first that doesn't follow, and this hint of it the first that breaks the rule.
+    /// Both are counted from 1, and the hint is 0 where the cause lies in none.
     NoLine { line: u32, hint: u32 },
     /// All lines of a log follow, and none is empty.
     NoEmptyClause,

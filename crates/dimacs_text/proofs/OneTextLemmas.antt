@@ -1,15 +1,14 @@
 -- A text spells one formula and log.
-use Rattle.std.proofs.Common.{◌≡◌, ℕ, ◌<◌, Bool, true, false, List, [], ◌∷◌, ◌++◌, length, map, refl, sym, ap, ◌∙◌, subst, arith}
+use Rattle.std.proofs.Common.{◌≡◌, ℕ, ◌<◌, Bool, true, false, List, [], ◌∷◌, ◌++◌, length, refl, sym, ap, ◌∙◌, subst, arith}
 use Rattle.std.specs.Prelude.{codes}
 use Rattle.std.specs.List.{AllByRecursion, flat_map}
-use Rattle.std.specs.Fmt.{decimal}
 use Rattle.clause_arena.specs.Clauses.{Clause}
 use Rattle.proof_check.specs.Lines.{Line}
 use Rattle.text_rows.specs.Words.{tokens}
-use Rattle.dimacs_text.specs.Logs.{ended, lit_word, LitsWithin, SpellsIf, SpellsLine, SpellsLog, is_passed, id_after}
+use Rattle.dimacs_text.specs.Logs.{LitsWithin, SpellsIf, SpellsLine, SpellsLog, is_passed, id_after}
 use Rattle.dimacs_text.specs.Formulas.{body_words, clause_words, clauses_words, AreClauses, header_words, SpellsFormula}
 use Rattle.dimacs_text.specs.Texts.{SpellsJoined}
-use Rattle.dimacs_text.proofs.EntryLemmas.{Words, heads, line_told}
+use Rattle.dimacs_text.proofs.EntryLemmas.{Words, line_told}
 use Rattle.dimacs_text.proofs.BodyLemmas.{AllOthers}
 use Rattle.dimacs_text.proofs.CnfLemmas.{header_told, lrat_no_number, clauses_told}
 use Rattle.dimacs_text.proofs.JoinedReadLemmas.{header_other}
