@@ -2,7 +2,7 @@
 use Rattle.std.proofs.Common.{◌≡◌, ◌≢◌, ℕ, ◌<◌, ◌⊎◌, List, length, Some, None, refl, sym, ap, ap₂, ◌∙◌, subst, arith, inl, inr}
 use Rattle.std.specs.Prelude.{Option}
 use Rattle.std.proofs.lemmas.Option.{none-some, same_Some}
-use Rattle.cpog_base.specs.declared.limits.TheConstants.{INPUT_LIMIT}
+use Rattle.cpog_base.specs.declared.limits.TheConstants.{INPUT_LIMIT, LONG_INPUT_LIMIT}
 use Rattle.cpog_base.specs.declared.limits.Counted.{Counted}
 use Rattle.cpog_base.specs.declared.status.Status.{Status}
 use Rattle.cpog_base.specs.declared.status.Status.TheVariants as status
@@ -23,6 +23,8 @@ use Rattle.cpog_app.specs.Allowed.{IsAnswerOfFile, IsGraphTextAnswer, Input, IsA
 use Rattle.cpog_app.specs.Complete.{SpellFile, AreGoodFor, IsGoodRun, RunsAreComplete}
 use Rattle.cpog_app.specs.Laws.{AllowedAgree}
 use Rattle.cpog_app.proofs.Causes.{Cause, Agree, IsOne, AreApart, either, one_at, one_either}
+use Rattle.cpog_app.specs.Judged.{IsLratAnswer, SpellRefutation}
+use Rattle.cpog_app.proofs.JudgedAgreement.{lrat_answers_agree, lrat_is_ok}
 use Rattle.cpog_app.proofs.FormulaAgreement.{cnf_answers_agree, cnf_is_ok}
 use Rattle.cpog_app.proofs.FileAgreement.{synth_answers_agree, normal_answers_agree, synth_is_ok, normal_is_ok}
 
@@ -126,6 +128,7 @@ module _ (told : List ℕ) (a b : Input) (p : a.left ≡ Some told) (q : b.left 
   command_answers_agree command.Normal s t x y m n h k = readings_agree INPUT_LIMIT (IsGraphTextAnswer IsNormalAnswer) (graph_text_answers_agree IsNormalAnswer normal_answers_agree) s t x y m n h k
   command_answers_agree (command.Cnf options) s t x y m n h k =
       readings_agree INPUT_LIMIT (IsGraphTextAnswer (IsCnfAnswer options)) (graph_text_answers_agree (IsCnfAnswer options) (cnf_answers_agree options)) s t x y m n h k
+  command_answers_agree command.Lrat s t x y m n h k = readings_agree LONG_INPUT_LIMIT IsLratAnswer lrat_answers_agree s t x y m n h k
 
   -- so have words
   words_answers_agree : (c : Option Command) (s t : Status) (x y : List ℕ) → s ≢ status.ReadFault → t ≢ status.ReadFault → IsWordsAnswer c a s x → IsWordsAnswer c b t y → Agree s x t y
@@ -153,10 +156,19 @@ module _ (OfFile : Contents → Cause) (Good : Contents → Type 0) (is_ok : (f 
       let same : h.bytes ≡ told = all_told input.left input.left_after told h.bytes left h.all in
       text_is_ok s x (subst (λ bytes. IsGraphTextAnswer OfFile bytes s x) same h.answer)
 
+-- all of a text that spells a refutation is answered at status 0
+judged_is_ok : (told : List ℕ) → SpellRefutation told → (input : Input) → input.left ≡ Some told → (s : Status) (x : List ℕ) → s ≢ status.ReadFault → IsReadingAnswer LONG_INPUT_LIMIT IsLratAnswer input s x → s ≡ status.Ok
+judged_is_ok told good input left s x n (inl (inl h)) = absurd (n h.0)
+judged_is_ok told good input left s x n (inl (inr h)) = absurd (omega (arith, longer_told LONG_INPUT_LIMIT input.left told left h.1.longer, good.within))
+judged_is_ok told good input left s x n (inr h) =
+    let same : h.bytes ≡ told = all_told input.left input.left_after told h.bytes left h.all in
+    lrat_is_ok told good s x (subst (λ bytes. IsLratAnswer bytes s x) same h.answer)
+
 command_is_ok : (c : Command) (told : List ℕ) → AreGoodFor c told → (input : Input) → input.left ≡ Some told → (s : Status) (x : List ℕ) → s ≢ status.ReadFault → IsCommandAnswer c input s x → s ≡ status.Ok
 command_is_ok (command.Synth options) told good = reading_is_ok (IsSynthAnswer options) _ (synth_is_ok options) told good
 command_is_ok command.Normal told good = reading_is_ok IsNormalAnswer _ normal_is_ok told good
 command_is_ok (command.Cnf options) told good = reading_is_ok (IsCnfAnswer options) _ (cnf_is_ok options) told good
+command_is_ok command.Lrat told good = judged_is_ok told good
 
 module _ (words : List (List ℕ)) (told : List ℕ) (input : Input) (left : input.left ≡ Some told) (good : IsGoodRun words told) where
   allowed_is_ok : (s : Status) (x : List ℕ) → s ≢ status.ReadFault → IsAllowed words input s x → s ≡ status.Ok

@@ -3,7 +3,7 @@ use Rattle.std.proofs.Common.{◌≡◌, ℕ, Bool, true, false, List, ap, inl, 
 use Rattle.std.specs.Prelude.{Option, Some, None}
 use Rattle.std.specs.Io.KnownBytes.{Appends}
 use Rattle.std.proofs.lemmas.Bool.{false≢true}
-use Rattle.cpog_base.specs.declared.limits.TheConstants.{INPUT_LIMIT}
+use Rattle.cpog_base.specs.declared.limits.TheConstants.{INPUT_LIMIT, LONG_INPUT_LIMIT}
 use Rattle.cpog_base.specs.declared.status.Status.{Status}
 use Rattle.cpog_base.specs.declared.status.Status.TheVariants as status
 use Rattle.pg_text.specs.Contents.{Contents}
@@ -16,6 +16,7 @@ use Rattle.cpog_app.specs.Words.{command_of}
 use Rattle.cpog_app.specs.Bits.{synth_length, cnf_length}
 use Rattle.cpog_app.specs.Refusals.{IsEncodingRefusal}
 use Rattle.cpog_app.specs.Answers.{IsSynthAnswer, IsNormalAnswer, IsCnfAnswer}
+use Rattle.cpog_app.specs.Judged.{IsLratAnswer}
 use Rattle.cpog_app.specs.Allowed.{Input, IsGraphTextAnswer, IsReadingAnswer, IsCommandAnswer, IsWordsAnswer, IsAllowed, IsPrinted, Ends}
 use Rattle.cpog_app.proofs.Causes.{Cause}
 
@@ -60,10 +61,18 @@ cnf_whole options f s x (inl h) = encoding_whole (cnf_length options) f s x h
 cnf_whole options f s x (inr (inl h)) = ap is_whole h.0
 cnf_whole options f s x (inr (inr h)) = ap is_whole h.0
 
+lrat_whole : (bytes : List ℕ) → AreWhole (IsLratAnswer bytes)
+lrat_whole bytes s x (inl (inl h)) = ap is_whole h.0
+lrat_whole bytes s x (inl (inr h)) = ap is_whole h.0
+lrat_whole bytes s x (inr (inl (inl h))) = ap is_whole h.0
+lrat_whole bytes s x (inr (inl (inr h))) = ap is_whole h.0
+lrat_whole bytes s x (inr (inr h)) = ap is_whole h.0
+
 command_whole : (c : Command) (input : Input) → AreWhole (IsCommandAnswer c input)
 command_whole (command.Synth options) = reading_whole INPUT_LIMIT (IsGraphTextAnswer (IsSynthAnswer options)) (text_whole (IsSynthAnswer options) (synth_whole options))
 command_whole command.Normal = reading_whole INPUT_LIMIT (IsGraphTextAnswer IsNormalAnswer) (text_whole IsNormalAnswer normal_whole)
 command_whole (command.Cnf options) = reading_whole INPUT_LIMIT (IsGraphTextAnswer (IsCnfAnswer options)) (text_whole (IsCnfAnswer options) (cnf_whole options))
+command_whole command.Lrat = reading_whole LONG_INPUT_LIMIT IsLratAnswer lrat_whole
 
 words_whole : (c : Option Command) (input : Input) → AreWhole (IsWordsAnswer c input)
 words_whole None input = λ s x h. ap is_whole h.0

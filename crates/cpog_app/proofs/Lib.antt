@@ -15,5 +15,6 @@ pub mod RefusalLemmas
 pub mod FileAgreement
 pub mod FormulaLemmas
 pub mod FormulaAgreement
+pub mod JudgedAgreement
 pub mod EndingLemmas
 pub mod AgreeLemmas

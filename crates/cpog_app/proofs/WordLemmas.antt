@@ -12,7 +12,7 @@ use Rattle.std.proofs.lemmas.Slice.Eq.{bytes_eq-Decides}
 use Rattle.cpog_app.specs.declared.words.Command.{Command}
 use Rattle.cpog_app.specs.declared.words.Command.TheVariants as command
 use Rattle.cpog_app.specs.declared.words.SaidOptions.{SaidOptions}
-use Rattle.cpog_app.specs.Words.{is_number_within, number_within, bits_in, bits_alone, either_said, joined, unsaid, options_in, settled, synth_in, normal_in, cnf_over, cnf_of, cnf_in, command_of}
+use Rattle.cpog_app.specs.Words.{is_number_within, number_within, bits_in, bits_alone, either_said, joined, unsaid, options_in, settled, synth_in, normal_in, lrat_in, cnf_over, cnf_of, cnf_in, command_of}
 use Rattle.cpog_app.specs.Bits.{MayBeSaid, MayBeNamed}
 
 -- ---- numbers
@@ -79,12 +79,15 @@ options_may (option ∷ value ∷ words) said e = named _ e
     both : (bits : ℕ) (other : Option ℕ) → bits_in value ≡ Some bits → option_map (λ b. record { bits = b }) (either_said (Some bits) other) ≡ Some said → MayBeSaid 1 said.bits
     both bits None p f = subst (λ s. MayBeSaid 1 s.bits) (same_Some (bits_alone bits) said f) (said_within 1 8 value bits p)
     both bits (Some n) p f = absurd (none-some said f)
+
     behind : (bits : ℕ) (others : Option SaidOptions) → bits_in value ≡ Some bits → option_and_then (joined (bits_alone bits)) others ≡ Some said → MayBeSaid 1 said.bits
     behind bits None p f = absurd (none-some said f)
     behind bits (Some others) p f = both bits others.bits p f
+
     first : (bits : Option ℕ) → bits_in value ≡ bits → option_and_then (λ b. option_and_then (joined (bits_alone b)) (options_in words)) bits ≡ Some said → MayBeSaid 1 said.bits
     first None p f = absurd (none-some said f)
     first (Some bits) p f = behind bits (options_in words) p f
+
     named : (t : Bool) → (if t then option_and_then (λ b. option_and_then (joined (bits_alone b)) (options_in words)) (bits_in value) else None) ≡ Some said → MayBeSaid 1 said.bits
     named false f = absurd (none-some said f)
     named true f = first (bits_in value) refl f
@@ -104,6 +107,10 @@ normal_may : (words : List (List ℕ)) (c : Command) → normal_in words ≡ Som
 normal_may [] c f = subst MayBeNamed (same_Some command.Normal c f) tt
 normal_may (word ∷ words) c f = absurd (none-some c f)
 
+lrat_may : (words : List (List ℕ)) (c : Command) → lrat_in words ≡ Some c → MayBeNamed c
+lrat_may [] c f = subst MayBeNamed (same_Some command.Lrat c f) tt
+lrat_may (word ∷ words) c f = absurd (none-some c f)
+
 over_may : (gates : ℕ) (bits : Option ℕ) (c : Command) → gates ≤ 4096 → MayBeSaid 1 bits → cnf_over gates bits ≡ Some c → MayBeNamed c
 over_may gates None c few may f = subst MayBeNamed (same_Some (command.Cnf (record { gates = gates; bits = None })) c f) (record { few_gates = few; bits = tt })
 over_may gates (Some zero) c few may f = absurd (omega (arith, may.0))
@@ -118,6 +125,7 @@ cnf_may (word ∷ words) c f = over (number_within 0 4096 word) refl f
     with_said : (gates : ℕ) (said : Option SaidOptions) → gates ≤ 4096 → options_in words ≡ said → option_and_then (cnf_of gates) said ≡ Some c → MayBeNamed c
     with_said gates None few p f = absurd (none-some c f)
     with_said gates (Some said) few p f = over_may gates said.bits c few (options_may words said p) f
+
     over : (gates : Option ℕ) → number_within 0 4096 word ≡ gates → option_and_then (λ g. option_and_then (cnf_of g) (options_in words)) gates ≡ Some c → MayBeNamed c
     over None p f = absurd (none-some c f)
     over (Some gates) p f = with_said gates (options_in words) (said_within 0 4096 word gates p).1 refl f
@@ -125,11 +133,12 @@ cnf_may (word ∷ words) c f = over (number_within 0 4096 word) refl f
 -- what words name may be named
 pub may_be_named : (words : List (List ℕ)) (c : Command) → command_of words ≡ Some c → MayBeNamed c
 may_be_named [] c e = absurd (none-some c e)
-may_be_named (word ∷ words) c e = named _ _ _ e
+may_be_named (word ∷ words) c e = named _ _ _ _ e
   where
-    named : (synth normal cnf : Bool) →
-        (if synth then synth_in words else (if normal then normal_in words else (if cnf then cnf_in words else None))) ≡ Some c → MayBeNamed c
-    named true normal cnf f = synth_may words c f
-    named false true cnf f = normal_may words c f
-    named false false true f = cnf_may words c f
-    named false false false f = absurd (none-some c f)
+    named : (synth normal cnf lrat : Bool) →
+        (if synth then synth_in words else (if normal then normal_in words else (if cnf then cnf_in words else (if lrat then lrat_in words else None)))) ≡ Some c → MayBeNamed c
+    named true normal cnf lrat f = synth_may words c f
+    named false true cnf lrat f = normal_may words c f
+    named false false true lrat f = cnf_may words c f
+    named false false false true f = lrat_may words c f
+    named false false false false f = absurd (none-some c f)

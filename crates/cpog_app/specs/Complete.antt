@@ -21,6 +21,7 @@ use Rattle.pg_normal.specs.Denoting.{stated_in}
 use Rattle.cpog_app.specs.Ordered.{AreOrdersIn}
 use Rattle.scenario_check.specs.Equals.{AreDifferent}
 use Rattle.cpog_app.specs.Allowed.{Input, IsAllowed, Ends}
+use Rattle.cpog_app.specs.Judged.{SpellRefutation}
 
 -- names are in order; there are scenarios, each bound and with no operation before itself, no two are equal, and there
 -- are codes for them
@@ -51,6 +52,7 @@ abbrev pub AreGoodFor : Command → List ℕ → Type 0
 AreGoodFor (command.Synth options) = SpellFile (CanBeEncoded (synth_length options))
 AreGoodFor command.Normal = SpellFile (λ f. name_faults f ≡ [])
 AreGoodFor (command.Cnf options) = SpellFile (CanBeAsked options)
+AreGoodFor command.Lrat = SpellRefutation
 
 -- the words name a command, which refuses the bytes for no cause
 pub record IsGoodRun (words : List (List ℕ)) (bytes : List ℕ) : Type 0 where

@@ -37,6 +37,8 @@ refusal_text refusal.NoScenario = codes "cpog: names: no scenario\n"
 refusal_text (refusal.Cyclic scenario operation) = codes "cpog: cyclic: scenario " ++ (scenario ++ (codes ": operation " ++ (operation ++ codes "\n")))
 refusal_text (refusal.Equal later earlier) = codes "cpog: equal: scenario " ++ (later ++ (codes ": scenario " ++ (earlier ++ codes "\n")))
 refusal_text (refusal.Limit what number) = codes "cpog: limit: " ++ (counted_word what ++ (codes " " ++ (decimal number ++ codes "\n")))
+refusal_text (refusal.NoLine line hint) = codes "cpog: no: line " ++ (decimal line ++ (codes " hint " ++ (decimal hint ++ codes "\n")))
+refusal_text refusal.NoEmptyClause = codes "cpog: no: no empty clause\n"
 
 -- the line that tells a fault of names
 abbrev pub IsNamesLine : NameFault → List ℕ → Type 0

@@ -67,6 +67,11 @@ abbrev pub normal_in : List (List ℕ) → Option Command
 normal_in [] = Some command.Normal
 normal_in words = None
 
+-- `lrat`, where no words stand behind it
+abbrev pub lrat_in : List (List ℕ) → Option Command
+lrat_in [] = Some command.Lrat
+lrat_in words = None
+
 -- `cnf` over so many gates, with two bits at least where they are said
 abbrev pub cnf_over : ℕ → Option ℕ → Option Command
 cnf_over gates None = Some (command.Cnf (record { gates = gates; bits = None }))
@@ -87,4 +92,5 @@ command_of [] = None
 command_of (word ∷ words) =
     if bytes_eq word (codes "synth") then synth_in words
     else (if bytes_eq word (codes "normal") then normal_in words
-    else (if bytes_eq word (codes "cnf") then cnf_in words else None))
+    else (if bytes_eq word (codes "cnf") then cnf_in words
+    else (if bytes_eq word (codes "lrat") then lrat_in words else None)))

@@ -9,6 +9,7 @@ mod cnf;
 mod encodable;
 mod graph_text;
 mod laws;
+mod lrat;
 mod normal;
 mod refusal;
 mod refusing;

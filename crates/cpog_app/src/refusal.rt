@@ -30,6 +30,11 @@ pub enum Refusal {
     Equal { later: Name, earlier: Name },
     /// There are more of something than this number.
     Limit { what: Counted, number: u32 },
+    /// This line of a log is the first that doesn't follow, and this hint of it the first that breaks the rule.
+    /// Both are counted from 1, and the hint is 0 where the cause lies in none.
+    NoLine { line: u32, hint: u32 },
+    /// All lines of a log follow, and none is empty.
+    NoEmptyClause,
 }
 
 /// The word for what a limit counts.
@@ -95,6 +100,10 @@ pub fn refusal_line(alloc: Global, refusal: &Refusal) -> Result<Vec<u8>, Memory>
             let word = word_of(*what);
             format!(in alloc; "cpog: limit: {word} {number}\n")?
         }
+        Refusal::NoLine { line, hint } => {
+            format!(in alloc; "cpog: no: line {line} hint {hint}\n")?
+        }
+        Refusal::NoEmptyClause => format!(in alloc; "cpog: no: no empty clause\n")?,
     };
     Ok(line.into_bytes())
 }

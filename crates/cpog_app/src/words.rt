@@ -44,6 +44,8 @@ pub enum Command {
     Normal,
     /// Print the formula that asks for an encoding of the graph text that is read.
     Cnf { options: CnfOptions },
+    /// Judge whether the log that is read refutes the formula before it.
+    Lrat,
 }
 
 /// The number that a word says in decimal digits, without a sign and without a leading zero, where it is in this range.
@@ -125,6 +127,7 @@ pub fn read_words(words: &[String]) -> Option<Command>
 {
     match words {
         [word] if word.as_str() == "normal" => Some(Command::Normal),
+        [word] if word.as_str() == "lrat" => Some(Command::Lrat),
         [word, options @ ..] if word.as_str() == "synth" => {
             let said = options_after(SaidOptions { bits: None }, options)?;
             let options = said.settled();

@@ -27,6 +27,8 @@ mod names;
 #[cfg(test)]
 mod one_bit;
 #[cfg(test)]
+mod refutations;
+#[cfg(test)]
 mod running;
 #[cfg(test)]
 mod words;

@@ -9,7 +9,7 @@ const USAGE: &[u8] =
 
 #[test]
 fn other_words_print_the_usage_line(rt: HostRuntime) -> Result<(), Fail> {
-    let table: [&[&str]; 25] = [
+    let table: [&[&str]; 26] = [
         &[],
         &["help"],
         &["Synth"],
@@ -35,6 +35,7 @@ fn other_words_print_the_usage_line(rt: HostRuntime) -> Result<(), Fail> {
         &["cnf", "--bits", "2", "1"],
         &["cnf", "1", "--bits", "2", "--bits", "2"],
         &["cnf", "1", "2"],
+        &["lrat", "x"],
     ];
     for words in table {
         let ending = run(rt.alloc(), words, b"scenario A = a\n")?;

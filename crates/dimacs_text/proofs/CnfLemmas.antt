@@ -71,7 +71,7 @@ completed v count good ds os g = by (count - length ds) refl
         closed : (k : ℕ) → stream ds os (clauses_words (replicate (suc k) [])) ≡ clauses_words (ds ++ (os ∷ replicate k []))
         closed k = ap (λ (t : Words). clauses_words ds ++ t) (sym (append_assoc (map lit_word os) (decimal 0 ∷ []) (clauses_words (replicate k [])))) ∙ sym (flat_clauses ds (os ∷ replicate k []))
 
-header_told : (v v' n n' : ℕ) → v < 10000000000 → v' < 10000000000 → n < 10000000000 → n' < 10000000000 → header_words v n ≡ header_words v' n' → (v ≡ v') × (n ≡ n')
+pub header_told : (v v' n n' : ℕ) → v < 10000000000 → v' < 10000000000 → n < 10000000000 → n' < 10000000000 → header_words v n ≡ header_words v' n' → (v ≡ v') × (n ≡ n')
 header_told v v' n n' lv lv' ln ln' e =
     let one = tails (codes "p") (codes "p") (codes "cnf" ∷ decimal v ∷ decimal n ∷ []) (codes "cnf" ∷ decimal v' ∷ decimal n' ∷ []) (header_words v n) refl e in
     let two = tails (codes "cnf") (codes "cnf") (decimal v ∷ decimal n ∷ []) (decimal v' ∷ decimal n' ∷ []) (codes "cnf" ∷ decimal v ∷ decimal n ∷ []) refl one in
@@ -143,7 +143,7 @@ pub whole_found : (front : List (List ℕ)) (p : List ℕ) (v count : ℕ) (all 
 whole_found front p v count all good ds os f e g n none =
     subst (λ (ls : List (List ℕ)). SpellsFormula ls v ds) (sym e) (formula_found front p v count good ds f (clauses_within v ds g.within) n (g.read ∙ (ap (λ (o : Clause). stream ds o []) none ∙ append-nil (clauses_words ds))))
 
-lrat_no_number : (p : Bool) (n : ℕ) (t : Words) → n < 10000000000 → (codes "lrat" ∷ []) ≡ signed_word p n ∷ t → ⊥
+pub lrat_no_number : (p : Bool) (n : ℕ) (t : Words) → n < 10000000000 → (codes "lrat" ∷ []) ≡ signed_word p n ∷ t → ⊥
 lrat_no_number true n t lt e = apart 108 45 (codes "rat") (decimal n) (omega arith) (heads (codes "lrat") (signed_word true n) [] t (codes "lrat" ∷ []) refl e)
   where
     apart : (a b : ℕ) (s t : List ℕ) → (a ≡ b → ⊥) → (a ∷ s) ≡ (b ∷ t) → ⊥

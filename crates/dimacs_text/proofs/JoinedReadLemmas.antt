@@ -28,7 +28,7 @@ others_both : (xs ys : List (List ℕ)) → AllOthers xs → AllOthers ys → Al
 others_both [] ys hx hy = hy
 others_both (x ∷ xs) ys hx hy = (hx.0, others_both xs ys hx.1 hy)
 
-header_other : (p : List ℕ) (v count : ℕ) → tokens p ≡ header_words v count → p ≡ codes "lrat" → ⊥
+pub header_other : (p : List ℕ) (v count : ℕ) → tokens p ≡ header_words v count → p ≡ codes "lrat" → ⊥
 header_other p v count e same =
     let h : codes "p" ≡ codes "lrat" = heads (codes "p") (codes "lrat") _ [] (tokens p) e (ap tokens same) in
     absurd (omega (arith, ap length h))

@@ -6,5 +6,6 @@ pub mod FrontLemmas
 pub mod CnfLemmas
 pub mod JoinedLemmas
 pub mod JoinedReadLemmas
+pub mod OneTextLemmas
 pub mod WritingLemmas
 pub mod SizeLemmas

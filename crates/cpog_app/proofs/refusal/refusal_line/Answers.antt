@@ -1,6 +1,6 @@
 use Rattle.std.proofs.Common.{rules}
 use Rattle.cpog_app.proofs.refusal.refusal_line.Goals as goal
-use Rattle.cpog_app.proofs.refusal.refusal_line.Goals.{in-Usage+in_ok-line-in-Usage, in-ReadFault+in_ok-line-in-ReadFault, in-Text+in_ok-line-in-Text, in-Duplicate+in_ok-line-in-Duplicate, in-UnknownGraph+in_ok-line-in-UnknownGraph, in-UnknownParam+in_ok-line-in-UnknownParam, in-Unbound+in_ok-line-in-Unbound, in-NoScenario+in_ok-line-in-NoScenario, in-Cyclic+in_ok-line-in-Cyclic, in-Equal+in_ok-line-in-Equal, in-Limit+in_ok-line-in-Limit}
+use Rattle.cpog_app.proofs.refusal.refusal_line.Goals.{in-Usage+in_ok-line-in-Usage, in-ReadFault+in_ok-line-in-ReadFault, in-Text+in_ok-line-in-Text, in-Duplicate+in_ok-line-in-Duplicate, in-UnknownGraph+in_ok-line-in-UnknownGraph, in-UnknownParam+in_ok-line-in-UnknownParam, in-Unbound+in_ok-line-in-Unbound, in-NoScenario+in_ok-line-in-NoScenario, in-Cyclic+in_ok-line-in-Cyclic, in-Equal+in_ok-line-in-Equal, in-Limit+in_ok-line-in-Limit, in-NoLine+in_ok-line-in-NoLine, in-NoEmptyClause+in_ok-line-in-NoEmptyClause}
 
 pub returns : goal.returns
 returns c = elim c.match-refusal.branch [
@@ -15,4 +15,6 @@ returns c = elim c.match-refusal.branch [
   | in-Cyclic+in_ok-line-in-Cyclic w ↦ search rules
   | in-Equal+in_ok-line-in-Equal w ↦ search rules
   | in-Limit+in_ok-line-in-Limit w ↦ search rules
+  | in-NoLine+in_ok-line-in-NoLine w ↦ search rules
+  | in-NoEmptyClause+in_ok-line-in-NoEmptyClause w ↦ search rules
 ]
