@@ -15,5 +15,7 @@ pub mod RefusalLemmas
 pub mod FileAgreement
 pub mod FormulaLemmas
 pub mod FormulaAgreement
+pub mod SolvedLemmas
+pub mod SolvedAgreement
 pub mod EndingLemmas
 pub mod AgreeLemmas

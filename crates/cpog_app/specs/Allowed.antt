@@ -1,7 +1,7 @@
 -- What a run may print, by its status.
 use Rattle.std.specs.Prelude.{◌≡◌, ◌⊎◌, List, ℕ, ◌≤◌, length, Bool, IsTrue, Option, Some, None}
 use Rattle.std.specs.Io.KnownBytes.{Appends, Keeps}
-use Rattle.cpog_base.specs.declared.limits.TheConstants.{INPUT_LIMIT}
+use Rattle.cpog_base.specs.declared.limits.TheConstants.{INPUT_LIMIT, LONG_INPUT_LIMIT}
 use Rattle.cpog_base.specs.declared.limits.Counted.TheVariants as counted
 use Rattle.cpog_base.specs.declared.status.Status.{Status}
 use Rattle.cpog_base.specs.declared.status.Status.TheVariants as status
@@ -16,6 +16,7 @@ use Rattle.cpog_app.specs.Words.{command_of}
 use Rattle.cpog_app.specs.Refusal.{refusal_text, At}
 use Rattle.cpog_app.specs.Refusals.{IsTextRefusal}
 use Rattle.cpog_app.specs.Answers.{IsSynthAnswer, IsNormalAnswer, IsCnfAnswer}
+use Rattle.cpog_app.specs.Solved.{IsSolveAnswer}
 
 -- ---- what is printed for a graph text
 
@@ -76,6 +77,7 @@ abbrev pub IsCommandAnswer : Command → Input → Status → List ℕ → Type 
 IsCommandAnswer (command.Synth options) = IsReadingAnswer INPUT_LIMIT (IsGraphTextAnswer (IsSynthAnswer options))
 IsCommandAnswer command.Normal = IsReadingAnswer INPUT_LIMIT (IsGraphTextAnswer IsNormalAnswer)
 IsCommandAnswer (command.Cnf options) = IsReadingAnswer INPUT_LIMIT (IsGraphTextAnswer (IsCnfAnswer options))
+IsCommandAnswer (command.Solve budget) = IsReadingAnswer LONG_INPUT_LIMIT (IsSolveAnswer budget)
 
 abbrev pub IsWordsAnswer : Option Command → Input → Status → List ℕ → Type 0
 IsWordsAnswer None input = At status.Usage (IsUsageAnswer input)

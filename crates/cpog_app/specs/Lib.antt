@@ -9,6 +9,7 @@ pub mod Refusals
 pub mod Encodable
 pub mod Stops
 pub mod Answers
+pub mod Solved
 pub mod Allowed
 pub mod Laws
 pub mod Complete

@@ -9,10 +9,11 @@ ghost use Rattle.cpog_app.specs.Stops.{IsStop};
 use crate::cnf::answer_cnf;
 use crate::normal::answer_normal;
 use crate::refusal::Refusal;
+use crate::solve::answer_solve;
 use crate::stop::{Answer, Stop, refuse};
 use crate::synth::answer_synth;
 use crate::words::{Command, read_words};
-use cpog_base::{Counted, INPUT_LIMIT, Memory, Status};
+use cpog_base::{Counted, INPUT_LIMIT, LONG_INPUT_LIMIT, Memory, Status};
 use cpog_outside::{ReadAllFault, Source, read_all};
 use std::alloc::Global;
 
@@ -68,6 +69,10 @@ fn answer_command<S: Source>(
         Command::Cnf { options } => {
             let bytes = read_input(alloc, source, INPUT_LIMIT)?;
             answer_cnf(alloc, options, &bytes)
+        }
+        Command::Solve { budget } => {
+            let bytes = read_input(alloc, source, LONG_INPUT_LIMIT)?;
+            answer_solve(alloc, budget, &bytes)
         }
     }
 }

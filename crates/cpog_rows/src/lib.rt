@@ -17,6 +17,8 @@ mod failing;
 #[cfg(test)]
 mod forms;
 #[cfg(test)]
+mod formulas;
+#[cfg(test)]
 mod gates;
 #[cfg(test)]
 mod limits;

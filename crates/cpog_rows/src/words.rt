@@ -9,7 +9,7 @@ const USAGE: &[u8] =
 
 #[test]
 fn other_words_print_the_usage_line(rt: HostRuntime) -> Result<(), Fail> {
-    let table: [&[&str]; 16] = [
+    let table: [&[&str]; 18] = [
         &[],
         &["help"],
         &["Synth"],
@@ -26,6 +26,8 @@ fn other_words_print_the_usage_line(rt: HostRuntime) -> Result<(), Fail> {
         &["normal", "--bits", "2"],
         &["normal", "x"],
         &["Normal"],
+        &["solve", "--budget", "0"],
+        &["solve", "--bits", "2"],
     ];
     for words in table {
         let ending = run(rt.alloc(), words, b"scenario A = a\n")?;
