@@ -1,5 +1,5 @@
--- What is allowed for the same words and bytes is one answer.
-use Rattle.std.proofs.Common.{◌≡◌, ◌≢◌, ℕ, ◌<◌, ◌⊎◌, List, length, Some, None, refl, sym, ap, ap₂, ◌∙◌, subst, arith, inl, inr}
+-- What is allowed for the same words and bytes is one answer, but for what a search finds.
+use Rattle.std.proofs.Common.{◌≡◌, ◌≢◌, ℕ, ◌<◌, ◌≤◌, ◌⊎◌, List, length, Some, None, refl, sym, ap, ap₂, ◌∙◌, subst, arith, inl, inr}
 use Rattle.std.specs.Prelude.{Option}
 use Rattle.std.proofs.lemmas.Option.{none-some, same_Some}
 use Rattle.cpog_base.specs.declared.limits.TheConstants.{INPUT_LIMIT, LONG_INPUT_LIMIT}
@@ -19,13 +19,15 @@ use Rattle.cpog_app.specs.Words.{command_of}
 use Rattle.cpog_app.specs.Refusal.{refusal_text, At}
 use Rattle.cpog_app.specs.Refusals.{IsBadLineAnswer, IsPassedAnswer}
 use Rattle.cpog_app.specs.Answers.{IsSynthAnswer, IsNormalAnswer, IsCnfAnswer}
+use Rattle.cpog_app.specs.Solved.{IsSolveAnswer}
 use Rattle.cpog_app.specs.Allowed.{IsAnswerOfFile, IsGraphTextAnswer, Input, IsAnswerToAll, IsLongAnswer, IsReadingAnswer, IsCommandAnswer, IsWordsAnswer, IsAllowed, Ends}
 use Rattle.cpog_app.specs.Complete.{SpellFile, AreGoodFor, IsGoodRun, RunsAreComplete}
-use Rattle.cpog_app.specs.Laws.{AllowedAgree}
+use Rattle.cpog_app.specs.Laws.{AreAlike, AllowedAgree}
 use Rattle.cpog_app.proofs.Causes.{Cause, Agree, IsOne, AreApart, either, one_at, one_either}
 use Rattle.cpog_app.specs.Judged.{IsLratAnswer, SpellRefutation}
 use Rattle.cpog_app.proofs.JudgedAgreement.{lrat_answers_agree, lrat_is_ok}
 use Rattle.cpog_app.proofs.FormulaAgreement.{cnf_answers_agree, cnf_is_ok}
+use Rattle.cpog_app.proofs.SolvedAgreement.{solve_answers_alike, solve_is_ok}
 use Rattle.cpog_app.proofs.FileAgreement.{synth_answers_agree, normal_answers_agree, synth_is_ok, normal_is_ok}
 
 -- ---- one answer to a text
@@ -102,8 +104,10 @@ longer_told limit (Some xs) told e h = subst (λ ys. limit < length ys) (same_So
 
 -- two inputs that tell the same bytes
 module _ (told : List ℕ) (a b : Input) (p : a.left ≡ Some told) (q : b.left ≡ Some told) where
-  -- of which one answer is made
-  module _ (limit : ℕ) (OfBytes : List ℕ → Cause) (one_answer : (bytes : List ℕ) → IsOne (OfBytes bytes)) where
+  -- of which alike answers are made
+  module _ (limit : ℕ) (OfBytes : List ℕ → Cause) (Alike : Status → List ℕ → Status → List ℕ → Type 0)
+      (same_alike : (s t : Status) (x y : List ℕ) → Agree s x t y → Alike s x t y)
+      (alike : (bytes : List ℕ) (s t : Status) (x y : List ℕ) → OfBytes bytes s x → OfBytes bytes t y → Alike s x t y) where
     long_or_all : (i j : Input) → i.left ≡ Some told → j.left ≡ Some told → (s : Status) (x y : List ℕ) → IsLongAnswer limit i x → IsAnswerToAll limit OfBytes j s y → ⊥
     long_or_all i j p q s x y h k =
         let many = longer_told limit i.left told p h.longer in
@@ -111,35 +115,50 @@ module _ (told : List ℕ) (a b : Input) (p : a.left ≡ Some told) (q : b.left 
         omega (arith, many, all, k.within)
 
     -- the bytes are longer than the limit or not
-    readings_agree : (s t : Status) (x y : List ℕ) → s ≢ status.ReadFault → t ≢ status.ReadFault → IsReadingAnswer limit OfBytes a s x → IsReadingAnswer limit OfBytes b t y → Agree s x t y
-    readings_agree s t x y m n (inl (inl h)) k = absurd (m h.0)
-    readings_agree s t x y m n (inl (inr h)) (inl (inl k)) = absurd (n k.0)
-    readings_agree s t x y m n (inl (inr h)) (inl (inr k)) = (h.0 ∙ sym k.0, h.1.output_is ∙ sym k.1.output_is)
-    readings_agree s t x y m n (inl (inr h)) (inr k) = absurd (long_or_all a b p q t x y h.1 k)
-    readings_agree s t x y m n (inr h) (inl (inl k)) = absurd (n k.0)
-    readings_agree s t x y m n (inr h) (inl (inr k)) = absurd (long_or_all b a q p s y x k.1 h)
-    readings_agree s t x y m n (inr h) (inr k) =
+    readings_alike : (s t : Status) (x y : List ℕ) → s ≢ status.ReadFault → t ≢ status.ReadFault → IsReadingAnswer limit OfBytes a s x → IsReadingAnswer limit OfBytes b t y → Alike s x t y
+    readings_alike s t x y m n (inl (inl h)) k = absurd (m h.0)
+    readings_alike s t x y m n (inl (inr h)) (inl (inl k)) = absurd (n k.0)
+    readings_alike s t x y m n (inl (inr h)) (inl (inr k)) = same_alike s t x y (h.0 ∙ sym k.0, h.1.output_is ∙ sym k.1.output_is)
+    readings_alike s t x y m n (inl (inr h)) (inr k) = absurd (long_or_all a b p q t x y h.1 k)
+    readings_alike s t x y m n (inr h) (inl (inl k)) = absurd (n k.0)
+    readings_alike s t x y m n (inr h) (inl (inr k)) = absurd (long_or_all b a q p s y x k.1 h)
+    readings_alike s t x y m n (inr h) (inr k) =
         let same : k.bytes ≡ h.bytes = all_told b.left b.left_after told k.bytes q k.all ∙ sym (all_told a.left a.left_after told h.bytes p h.all) in
-        one_answer h.bytes s t x y h.answer (subst (λ bytes. OfBytes bytes t y) same k.answer)
+        alike h.bytes s t x y h.answer (subst (λ bytes. OfBytes bytes t y) same k.answer)
 
-  -- a command has one answer
-  command_answers_agree : (c : Command) (s t : Status) (x y : List ℕ) → s ≢ status.ReadFault → t ≢ status.ReadFault → IsCommandAnswer c a s x → IsCommandAnswer c b t y → Agree s x t y
+  -- of which one answer is made
+  readings_agree : (limit : ℕ) (OfBytes : List ℕ → Cause) → ((bytes : List ℕ) → IsOne (OfBytes bytes)) → (s t : Status) (x y : List ℕ) → s ≢ status.ReadFault → t ≢ status.ReadFault → IsReadingAnswer limit OfBytes a s x → IsReadingAnswer limit OfBytes b t y → Agree s x t y
+  readings_agree limit OfBytes one_answer = readings_alike limit OfBytes Agree (λ s t x y h. h) one_answer
+
+  -- the answers of a command are alike
+  command_answers_agree : (c : Command) (s t : Status) (x y : List ℕ) → s ≢ status.ReadFault → t ≢ status.ReadFault → IsCommandAnswer c a s x → IsCommandAnswer c b t y → AreAlike (Some c) s x t y
   command_answers_agree (command.Synth options) s t x y m n h k = readings_agree INPUT_LIMIT (IsGraphTextAnswer (IsSynthAnswer options)) (graph_text_answers_agree (IsSynthAnswer options) (synth_answers_agree options)) s t x y m n h k
   command_answers_agree command.Normal s t x y m n h k = readings_agree INPUT_LIMIT (IsGraphTextAnswer IsNormalAnswer) (graph_text_answers_agree IsNormalAnswer normal_answers_agree) s t x y m n h k
   command_answers_agree (command.Cnf options) s t x y m n h k =
       readings_agree INPUT_LIMIT (IsGraphTextAnswer (IsCnfAnswer options)) (graph_text_answers_agree (IsCnfAnswer options) (cnf_answers_agree options)) s t x y m n h k
   command_answers_agree command.Lrat s t x y m n h k = readings_agree LONG_INPUT_LIMIT IsLratAnswer lrat_answers_agree s t x y m n h k
+  command_answers_agree (command.Solve budget) s t x y m n h k =
+      readings_alike LONG_INPUT_LIMIT (IsSolveAnswer budget) (AreAlike (Some (command.Solve budget))) (λ s t x y agree. (agree.0, λ _. agree.1)) (solve_answers_alike budget) s t x y m n h k
 
   -- so have words
-  words_answers_agree : (c : Option Command) (s t : Status) (x y : List ℕ) → s ≢ status.ReadFault → t ≢ status.ReadFault → IsWordsAnswer c a s x → IsWordsAnswer c b t y → Agree s x t y
+  words_answers_agree : (c : Option Command) (s t : Status) (x y : List ℕ) → s ≢ status.ReadFault → t ≢ status.ReadFault → IsWordsAnswer c a s x → IsWordsAnswer c b t y → AreAlike c s x t y
   words_answers_agree None s t x y m n h k = (h.0 ∙ sym k.0, h.1.output_is ∙ sym k.1.output_is)
   words_answers_agree (Some c) s t x y m n h k = command_answers_agree c s t x y m n h k
 
--- the same words and told bytes have one answer
+-- the same words and told bytes have alike answers
 pub allowed_agree : AllowedAgree
 allowed_agree words told a b s t x y p q h k m n = words_answers_agree told a b p q (command_of words) s t x y m n h k
 
 -- ---- a run that is refused for no cause
+
+-- all of told bytes within the limit is answered at status 0
+reading_is_answered : (limit : ℕ) (OfBytes : List ℕ → Cause) (told : List ℕ) → length told ≤ limit → ((s : Status) (x : List ℕ) → OfBytes told s x → s ≡ status.Ok)
+    → (input : Input) → input.left ≡ Some told → (s : Status) (x : List ℕ) → s ≢ status.ReadFault → IsReadingAnswer limit OfBytes input s x → s ≡ status.Ok
+reading_is_answered limit OfBytes told within is_ok input left s x n (inl (inl h)) = absurd (n h.0)
+reading_is_answered limit OfBytes told within is_ok input left s x n (inl (inr h)) = absurd (omega (arith, longer_told limit input.left told left h.1.longer, within))
+reading_is_answered limit OfBytes told within is_ok input left s x n (inr h) =
+    let same : h.bytes ≡ told = all_told input.left input.left_after told h.bytes left h.all in
+    is_ok s x (subst (λ bytes. OfBytes bytes s x) same h.answer)
 
 -- all of a graph text that spells such a file is answered at status 0
 module _ (OfFile : Contents → Cause) (Good : Contents → Type 0) (is_ok : (f : Contents) → Good f → (s : Status) (x : List ℕ) → OfFile f s x → s ≡ status.Ok)
@@ -150,11 +169,7 @@ module _ (OfFile : Contents → Cause) (Good : Contents → Type 0) (is_ok : (f 
   text_is_ok s x (inr h) = is_ok good.file good.holds s x (subst (λ f. OfFile f s x) (one_file told h.file good.file h.is_file good.is_file) h.answer)
 
   reading_is_ok : (input : Input) → input.left ≡ Some told → (s : Status) (x : List ℕ) → s ≢ status.ReadFault → IsReadingAnswer INPUT_LIMIT (IsGraphTextAnswer OfFile) input s x → s ≡ status.Ok
-  reading_is_ok input left s x n (inl (inl h)) = absurd (n h.0)
-  reading_is_ok input left s x n (inl (inr h)) = absurd (omega (arith, longer_told INPUT_LIMIT input.left told left h.1.longer, good.within))
-  reading_is_ok input left s x n (inr h) =
-      let same : h.bytes ≡ told = all_told input.left input.left_after told h.bytes left h.all in
-      text_is_ok s x (subst (λ bytes. IsGraphTextAnswer OfFile bytes s x) same h.answer)
+  reading_is_ok = reading_is_answered INPUT_LIMIT (IsGraphTextAnswer OfFile) told good.within text_is_ok
 
 -- all of a text that spells a refutation is answered at status 0
 judged_is_ok : (told : List ℕ) → SpellRefutation told → (input : Input) → input.left ≡ Some told → (s : Status) (x : List ℕ) → s ≢ status.ReadFault → IsReadingAnswer LONG_INPUT_LIMIT IsLratAnswer input s x → s ≡ status.Ok
@@ -169,6 +184,7 @@ command_is_ok (command.Synth options) told good = reading_is_ok (IsSynthAnswer o
 command_is_ok command.Normal told good = reading_is_ok IsNormalAnswer _ normal_is_ok told good
 command_is_ok (command.Cnf options) told good = reading_is_ok (IsCnfAnswer options) _ (cnf_is_ok options) told good
 command_is_ok command.Lrat told good = judged_is_ok told good
+command_is_ok (command.Solve budget) told good = reading_is_answered LONG_INPUT_LIMIT (IsSolveAnswer budget) told good.within (solve_is_ok budget told good)
 
 module _ (words : List (List ℕ)) (told : List ℕ) (input : Input) (left : input.left ≡ Some told) (good : IsGoodRun words told) where
   allowed_is_ok : (s : Status) (x : List ℕ) → s ≢ status.ReadFault → IsAllowed words input s x → s ≡ status.Ok

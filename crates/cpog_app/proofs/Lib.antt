@@ -16,5 +16,7 @@ pub mod FileAgreement
 pub mod FormulaLemmas
 pub mod FormulaAgreement
 pub mod JudgedAgreement
+pub mod SolvedLemmas
+pub mod SolvedAgreement
 pub mod EndingLemmas
 pub mod AgreeLemmas

@@ -19,7 +19,7 @@ use Rattle.pg_text.specs.Contents.{Contents}
 use Rattle.pg_text.specs.Text.{IsFile}
 use Rattle.report_text.specs.declared.bound.Bound.{Bound}
 use Rattle.report_text.specs.Report.{ReportValue, IsArcBefore, IsBound, IsReport, IsReported}
-use Rattle.opcode_assign.specs.Assignments.{IsFirstAssignment, most_gates}
+use Rattle.opcode_assign.specs.Assignments.{IsFirstAssignment}
 use Rattle.cpog_base.specs.declared.limits.TheConstants.{BUDGET_LIMIT}
 use Rattle.pg_normal.specs.Denoting.{Stated, stated_in, scenario_names_of, IsDenoted, AreDenoted}
 use Rattle.cpog_app.specs.Ordered.{AreOrdersIn}
@@ -174,7 +174,7 @@ module _ (f : Contents) (orders : List Order) (z : AreOrdersIn f orders) (some :
 
   -- the report of a file over so many bits is lawful
   module _ (file : IsFile f) (few : length orders ≤ 64) (bits : ℕ) (some_bit : 1 ≤ bits) (few_bits : bits ≤ 8)
-      (e : Encoding) (encodes : Encodes (count_of orders) orders (open_patterns (length orders)) bits e) (few_gates : length e.gates.gates ≤ most_gates)
+      (e : Encoding) (encodes : Encodes (count_of orders) orders (open_patterns (length orders)) bits e) (few_gates : length e.gates.gates ≤ 64320)
       (b : Bound) (bound : IsBound (length e.gates.gates) b) (n : Netlist) (netlist : IsNetlistOf e n)
       (budget : ℕ) (some_budget : 1 ≤ budget) (few_budget : budget ≤ BUDGET_LIMIT) (distinct : AreDistinct (scenario_names_of f)) where
     abbrev report : ReportValue

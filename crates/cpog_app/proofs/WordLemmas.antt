@@ -1,6 +1,6 @@
 -- The words of the command line: numbers, options, and what a command says of them.
-use Rattle.std.proofs.Common.{◌≡◌, ◌≤◌, ◌<◌, ◌⊎◌, ℕ, suc, zero, List, [], ◌∷◌, Some, None, true, false, Bool, refl, sym, ◌∙◌, ap, subst, arith, inl, inr, if◌then◌else◌, length}
-use Rattle.std.specs.Prelude.{Option, nat_le, option_and_then, option_map}
+use Rattle.std.proofs.Common.{◌≡◌, ◌≤◌, ◌<◌, ◌⊎◌, ℕ, suc, zero, List, [], ◌∷◌, Some, None, true, false, Bool, refl, sym, ◌∙◌, ap, ap₂, subst, arith, inl, inr, if◌then◌else◌, length, ◌-◌, take, drop, get_or}
+use Rattle.std.specs.Prelude.{Option, nat_le, option_and_then, option_map, unwrap_or}
 use Rattle.std.specs.Fmt.{decimal}
 use Rattle.std.specs.Str.{bytes_eq}
 use Rattle.std.specs.Str.Parse.{digits_value}
@@ -12,7 +12,7 @@ use Rattle.std.proofs.lemmas.Slice.Eq.{bytes_eq-Decides}
 use Rattle.cpog_app.specs.declared.words.Command.{Command}
 use Rattle.cpog_app.specs.declared.words.Command.TheVariants as command
 use Rattle.cpog_app.specs.declared.words.SaidOptions.{SaidOptions}
-use Rattle.cpog_app.specs.Words.{is_number_within, number_within, bits_in, bits_alone, either_said, joined, unsaid, options_in, settled, synth_in, normal_in, lrat_in, cnf_over, cnf_of, cnf_in, command_of}
+use Rattle.cpog_app.specs.Words.{is_number_within, number_within, bits_in, budget_in, bits_alone, budget_alone, either_said, both_said, joined, unsaid, option_in, options_in, without, synth_of, synth_in, normal_in, lrat_in, cnf_over, cnf_of, cnf_in, solve_of, solve_in, command_of}
 use Rattle.cpog_app.specs.Bits.{MayBeSaid, MayBeNamed}
 
 -- ---- numbers
@@ -70,38 +70,155 @@ one_word said [] e = absurd (omega (arith, e))
 one_word said (word ∷ []) e = refl
 one_word said (word ∷ other ∷ words) e = absurd (omega (arith, e))
 
--- the options that words say, say 1 to 8 bits or none
-options_may : (words : List (List ℕ)) (said : SaidOptions) → options_in words ≡ Some said → MayBeSaid 1 said.bits
-options_may [] said e = subst (λ s. MayBeSaid 1 s.bits) (same_Some unsaid said e) tt
-options_may (option ∷ []) said e = absurd (none-some said e)
-options_may (option ∷ value ∷ words) said e = named _ e
+-- nothing is joined to no options
+pub joined_unsaid : (said : SaidOptions) → joined said unsaid ≡ Some said
+joined_unsaid said = ap₂ both_said (alone said.bits) (alone said.budget)
   where
-    both : (bits : ℕ) (other : Option ℕ) → bits_in value ≡ Some bits → option_map (λ b. record { bits = b }) (either_said (Some bits) other) ≡ Some said → MayBeSaid 1 said.bits
-    both bits None p f = subst (λ s. MayBeSaid 1 s.bits) (same_Some (bits_alone bits) said f) (said_within 1 8 value bits p)
-    both bits (Some n) p f = absurd (none-some said f)
+    alone : (o : Option ℕ) → either_said o None ≡ Some o
+    alone None = refl
+    alone (Some n) = refl
 
-    behind : (bits : ℕ) (others : Option SaidOptions) → bits_in value ≡ Some bits → option_and_then (joined (bits_alone bits)) others ≡ Some said → MayBeSaid 1 said.bits
-    behind bits None p f = absurd (none-some said f)
-    behind bits (Some others) p f = both bits others.bits p f
+no_budget : (bits : Option (Option ℕ)) → both_said bits None ≡ None
+no_budget None = refl
+no_budget (Some d) = refl
 
-    first : (bits : Option ℕ) → bits_in value ≡ bits → option_and_then (λ b. option_and_then (joined (bits_alone b)) (options_in words)) bits ≡ Some said → MayBeSaid 1 said.bits
-    first None p f = absurd (none-some said f)
-    first (Some bits) p f = behind bits (options_in words) p f
+behind_both : (a : SaidOptions) (p q : Option (Option ℕ)) →
+    option_and_then (joined a) (both_said p q) ≡ both_said (option_and_then (either_said a.bits) p) (option_and_then (either_said a.budget) q)
+behind_both a None q = refl
+behind_both a (Some d) None = sym (no_budget (either_said a.bits d))
+behind_both a (Some d) (Some n) = refl
 
-    named : (t : Bool) → (if t then option_and_then (λ b. option_and_then (joined (bits_alone b)) (options_in words)) (bits_in value) else None) ≡ Some said → MayBeSaid 1 said.bits
-    named false f = absurd (none-some said f)
-    named true f = first (bits_in value) refl f
+before_both : (c : SaidOptions) (p q : Option (Option ℕ)) →
+    option_and_then (λ s. joined s c) (both_said p q) ≡ both_said (option_and_then (λ d. either_said d c.bits) p) (option_and_then (λ n. either_said n c.budget) q)
+before_both c None q = refl
+before_both c (Some d) None = sym (no_budget (either_said d c.bits))
+before_both c (Some d) (Some n) = refl
+
+either_behind : (a b c : Option ℕ) → option_and_then (either_said a) (either_said b c) ≡ option_and_then (λ d. either_said d c) (either_said a b)
+either_behind None None c = refl
+either_behind None (Some n) None = refl
+either_behind None (Some n) (Some m) = refl
+either_behind (Some n) None None = refl
+either_behind (Some n) None (Some m) = refl
+either_behind (Some n) (Some m) None = refl
+either_behind (Some n) (Some m) (Some k) = refl
+
+-- options are joined in any order of steps
+pub joined_behind : (a b : SaidOptions) (others : Option SaidOptions) → option_and_then (joined a) (option_and_then (joined b) others) ≡ option_and_then (λ s. option_and_then (joined s) others) (joined a b)
+joined_behind a b None = sym (none (joined a b))
+  where
+    nothing : SaidOptions → Option SaidOptions
+    nothing s = None
+    none : (o : Option SaidOptions) → option_and_then nothing o ≡ None
+    none None = refl
+    none (Some s) = refl
+joined_behind a b (Some c) =
+    behind_both a (either_said b.bits c.bits) (either_said b.budget c.budget)
+    ∙ (ap₂ both_said (either_behind a.bits b.bits c.bits) (either_behind a.budget b.budget c.budget)
+    ∙ sym (before_both c (either_said a.bits b.bits) (either_said a.budget b.budget)))
+
+take_whole : {W : Type 0} (ws : List W) (n : ℕ) → n ≡ length ws → take n ws ≡ ws
+take_whole [] zero e = refl
+take_whole [] (suc n) e = refl
+take_whole (w ∷ ws) zero e = absurd (omega (arith, e))
+take_whole (w ∷ ws) (suc n) e = ap (λ us. w ∷ us) (take_whole ws n (omega (arith, e)))
+
+-- two words stand first
+pub two_first : {W : Type 0} (ws : List W) (n v : W) → 2 ≤ length ws → n ≡ get_or ws 0 n → v ≡ get_or ws 1 v → ws ≡ n ∷ v ∷ take (length ws - 2) (drop 2 ws)
+two_first [] n v l first second = absurd (omega (arith, l))
+two_first (x ∷ []) n v l first second = absurd (omega (arith, l))
+two_first (x ∷ y ∷ ws) n v l first second =
+    let rest : take (length (x ∷ y ∷ ws) - 2) ws ≡ ws = take_whole ws (length (x ∷ y ∷ ws) - 2) (omega arith) in
+    λ i. sym first i ∷ sym second i ∷ sym rest i
+
+-- an option is joined before the words behind it
+pub options_joined : (a one both : SaidOptions) (name value : List ℕ) (words : List (List ℕ)) (result : Option SaidOptions) → Some one ≡ option_in name value → Some both ≡ joined a one →
+    result ≡ option_and_then (joined both) (options_in words) → result ≡ option_and_then (joined a) (options_in (name ∷ value ∷ words))
+options_joined a one both name value words result said all e =
+    e ∙ (ap (option_and_then (λ s. option_and_then (joined s) (options_in words))) all
+    ∙ (sym (joined_behind a one (options_in words)) ∙ ap (λ o. option_and_then (joined a) (option_and_then (λ s. option_and_then (joined s) (options_in words)) o)) said))
+
+-- a budget, where one is said, is from 1 to 8388608
+abbrev MayBudget : Option ℕ → Type 0
+MayBudget None = Unit {0}
+MayBudget (Some budget) = (1 ≤ budget) × (budget ≤ 8388608)
+
+abbrev MaySay : SaidOptions → Type 0
+MaySay said = MayBeSaid 1 said.bits × MayBudget said.budget
+
+either_may : (P : Option ℕ → Type 0) (a b c : Option ℕ) → P a → P b → either_said a b ≡ Some c → P c
+either_may P None b c h k e = subst P (same_Some b c e) k
+either_may P (Some n) None c h k e = subst P (same_Some (Some n) c e) h
+either_may P (Some n) (Some m) c h k e = absurd (none-some c e)
+
+joined_may : (a b c : SaidOptions) → MaySay a → MaySay b → joined a b ≡ Some c → MaySay c
+joined_may a b c h k e = over (either_said a.bits b.bits) (either_said a.budget b.budget) refl refl e
+  where
+    over : (p q : Option (Option ℕ)) → either_said a.bits b.bits ≡ p → either_said a.budget b.budget ≡ q → both_said p q ≡ Some c → MaySay c
+    over None q first second f = absurd (none-some c f)
+    over (Some d) None first second f = absurd (none-some c f)
+    over (Some d) (Some n) first second f =
+        subst MaySay (same_Some (record { bits = d; budget = n }) c f)
+        (either_may (MayBeSaid 1) a.bits b.bits d h.0 k.0 first, either_may MayBudget a.budget b.budget n h.1 k.1 second)
+
+option_may : (name value : List ℕ) (said : SaidOptions) → option_in name value ≡ Some said → MaySay said
+option_may name value said e = named _ _ e
+  where
+    bits : (o : Option ℕ) → bits_in value ≡ o → option_map bits_alone o ≡ Some said → MaySay said
+    bits None p f = absurd (none-some said f)
+    bits (Some n) p f = subst MaySay (same_Some (bits_alone n) said f) (said_within 1 8 value n p, tt)
+    budget : (o : Option ℕ) → budget_in value ≡ o → option_map budget_alone o ≡ Some said → MaySay said
+    budget None p f = absurd (none-some said f)
+    budget (Some n) p f = subst MaySay (same_Some (budget_alone n) said f) (tt, said_within 1 8388608 value n p)
+    named : (t u : Bool) → (if t then option_map bits_alone (bits_in value) else (if u then option_map budget_alone (budget_in value) else None)) ≡ Some said → MaySay said
+    named true u f = bits (bits_in value) refl f
+    named false true f = budget (budget_in value) refl f
+    named false false f = absurd (none-some said f)
+
+-- the options that words say, say 1 to 8 bits or none, and a budget from 1 to 8388608 or none
+options_may : (words : List (List ℕ)) (said : SaidOptions) → options_in words ≡ Some said → MaySay said
+options_may [] said e = subst MaySay (same_Some unsaid said e) (tt, tt)
+options_may (name ∷ []) said e = absurd (none-some said e)
+options_may (name ∷ value ∷ words) said e = first (option_in name value) refl e (λ others p. options_may words others p)
+  where
+    behind : (one : SaidOptions) (others : Option SaidOptions) → MaySay one → options_in words ≡ others → option_and_then (joined one) others ≡ Some said →
+        ((o : SaidOptions) → options_in words ≡ Some o → MaySay o) → MaySay said
+    behind one None h p f may = absurd (none-some said f)
+    behind one (Some others) h p f may = joined_may one others said h (may others p) f
+    first : (one : Option SaidOptions) → option_in name value ≡ one → option_and_then (λ s. option_and_then (joined s) (options_in words)) one ≡ Some said →
+        ((o : SaidOptions) → options_in words ≡ Some o → MaySay o) → MaySay said
+    first None p f may = absurd (none-some said f)
+    first (Some one) p f may = behind one (options_in words) (option_may name value one p) refl f may
 
 -- ---- commands
+
+-- a command where an option isn't said is that command
+unsaid_is : (option : Option ℕ) (command : Option Command) (c : Command) → without option command ≡ Some c → command ≡ Some c
+unsaid_is None command c f = f
+unsaid_is (Some n) command c f = absurd (none-some c f)
 
 module _ (words : List (List ℕ)) (c : Command) where
   synth_may : synth_in words ≡ Some c → MayBeNamed c
   synth_may f = over (options_in words) refl f
     where
-      over : (said : Option SaidOptions) → options_in words ≡ said → option_map (λ s. command.Synth (settled s)) said ≡ Some c → MayBeNamed c
+      over : (said : Option SaidOptions) → options_in words ≡ said → option_and_then synth_of said ≡ Some c → MayBeNamed c
       over None p f = absurd (none-some c f)
-      over (Some said) p f = subst MayBeNamed (same_Some (command.Synth (settled said)) c f)
-          (record { bits = options_may words said p; some_budget = omega arith; few_budget = omega arith })
+      over (Some said) p f =
+          subst MayBeNamed (same_Some (command.Synth (record { bits = said.bits; budget = 2000000 })) c (unsaid_is said.budget _ c f))
+          (record { bits = (options_may words said p).0; some_budget = omega arith; few_budget = omega arith })
+
+  settled_may : (budget : Option ℕ) → MayBudget budget → MayBeNamed (command.Solve (unwrap_or budget 2000000))
+  settled_may None h = (omega arith, omega arith)
+  settled_may (Some budget) h = h
+
+  solve_may : solve_in words ≡ Some c → MayBeNamed c
+  solve_may f = over (options_in words) refl f
+    where
+      over : (said : Option SaidOptions) → options_in words ≡ said → option_and_then solve_of said ≡ Some c → MayBeNamed c
+      over None p f = absurd (none-some c f)
+      over (Some said) p f =
+          subst MayBeNamed (same_Some (command.Solve (unwrap_or said.budget 2000000)) c (unsaid_is said.bits _ c f))
+          (settled_may said.budget (options_may words said p).1)
 
 normal_may : (words : List (List ℕ)) (c : Command) → normal_in words ≡ Some c → MayBeNamed c
 normal_may [] c f = subst MayBeNamed (same_Some command.Normal c f) tt
@@ -124,8 +241,7 @@ cnf_may (word ∷ words) c f = over (number_within 0 4096 word) refl f
   where
     with_said : (gates : ℕ) (said : Option SaidOptions) → gates ≤ 4096 → options_in words ≡ said → option_and_then (cnf_of gates) said ≡ Some c → MayBeNamed c
     with_said gates None few p f = absurd (none-some c f)
-    with_said gates (Some said) few p f = over_may gates said.bits c few (options_may words said p) f
-
+    with_said gates (Some said) few p f = over_may gates said.bits c few (options_may words said p).0 (unsaid_is said.budget (cnf_over gates said.bits) c f)
     over : (gates : Option ℕ) → number_within 0 4096 word ≡ gates → option_and_then (λ g. option_and_then (cnf_of g) (options_in words)) gates ≡ Some c → MayBeNamed c
     over None p f = absurd (none-some c f)
     over (Some gates) p f = with_said gates (options_in words) (said_within 0 4096 word gates p).1 refl f
@@ -133,12 +249,13 @@ cnf_may (word ∷ words) c f = over (number_within 0 4096 word) refl f
 -- what words name may be named
 pub may_be_named : (words : List (List ℕ)) (c : Command) → command_of words ≡ Some c → MayBeNamed c
 may_be_named [] c e = absurd (none-some c e)
-may_be_named (word ∷ words) c e = named _ _ _ _ e
+may_be_named (word ∷ words) c e = named _ _ _ _ _ e
   where
-    named : (synth normal cnf lrat : Bool) →
-        (if synth then synth_in words else (if normal then normal_in words else (if cnf then cnf_in words else (if lrat then lrat_in words else None)))) ≡ Some c → MayBeNamed c
-    named true normal cnf lrat f = synth_may words c f
-    named false true cnf lrat f = normal_may words c f
-    named false false true lrat f = cnf_may words c f
-    named false false false true f = lrat_may words c f
-    named false false false false f = absurd (none-some c f)
+    named : (synth normal cnf lrat solve : Bool) →
+        (if synth then synth_in words else (if normal then normal_in words else (if cnf then cnf_in words else (if lrat then lrat_in words else (if solve then solve_in words else None))))) ≡ Some c → MayBeNamed c
+    named true normal cnf lrat solve f = synth_may words c f
+    named false true cnf lrat solve f = normal_may words c f
+    named false false true lrat solve f = cnf_may words c f
+    named false false false true solve f = lrat_may words c f
+    named false false false false true f = solve_may words c f
+    named false false false false false f = absurd (none-some c f)

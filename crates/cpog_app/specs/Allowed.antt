@@ -17,6 +17,7 @@ use Rattle.cpog_app.specs.Refusal.{refusal_text, At}
 use Rattle.cpog_app.specs.Refusals.{IsTextRefusal}
 use Rattle.cpog_app.specs.Answers.{IsSynthAnswer, IsNormalAnswer, IsCnfAnswer}
 use Rattle.cpog_app.specs.Judged.{IsLratAnswer}
+use Rattle.cpog_app.specs.Solved.{IsSolveAnswer}
 
 -- ---- what is printed for a graph text
 
@@ -78,6 +79,7 @@ IsCommandAnswer (command.Synth options) = IsReadingAnswer INPUT_LIMIT (IsGraphTe
 IsCommandAnswer command.Normal = IsReadingAnswer INPUT_LIMIT (IsGraphTextAnswer IsNormalAnswer)
 IsCommandAnswer (command.Cnf options) = IsReadingAnswer INPUT_LIMIT (IsGraphTextAnswer (IsCnfAnswer options))
 IsCommandAnswer command.Lrat = IsReadingAnswer LONG_INPUT_LIMIT IsLratAnswer
+IsCommandAnswer (command.Solve budget) = IsReadingAnswer LONG_INPUT_LIMIT (IsSolveAnswer budget)
 
 abbrev pub IsWordsAnswer : Option Command → Input → Status → List ℕ → Type 0
 IsWordsAnswer None input = At status.Usage (IsUsageAnswer input)

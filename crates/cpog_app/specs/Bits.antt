@@ -31,6 +31,7 @@ MayBeNamed (command.Synth options) = MayBeAsked options
 MayBeNamed command.Normal = Unit {0}
 MayBeNamed (command.Cnf options) = MayBeFormula options
 MayBeNamed command.Lrat = Unit {0}
+MayBeNamed (command.Solve budget) = (1 ≤ budget) × (budget ≤ BUDGET_LIMIT)
 
 -- the length of codes that a report has: the bits that are said, or else 1 at least
 abbrev pub synth_length : SynthOptions → CodeLength

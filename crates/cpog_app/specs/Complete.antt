@@ -1,8 +1,11 @@
 -- Runs that are refused for no cause, and in which no end fails.
 use Rattle.std.specs.Prelude.{◌≡◌, ◌≢◌, ◌⊎◌, List, [], ℕ, ◌≤◌, ◌^◌, length, Option, Some}
-use Rattle.cpog_base.specs.declared.limits.TheConstants.{INPUT_LIMIT, TEMPLATE_LIMIT}
+use Rattle.cpog_base.specs.declared.limits.TheConstants.{INPUT_LIMIT, LONG_INPUT_LIMIT, TEMPLATE_LIMIT, VARIABLE_LIMIT}
 use Rattle.clause_arena.specs.Arenas.{literals}
+use Rattle.clause_arena.specs.Clauses.{Clause}
 use Rattle.cpog_merge.specs.Classes.{Classes}
+use Rattle.dimacs_text.specs.Formulas.{SpellsFormula}
+use Rattle.text_rows.specs.Lines.{free_lines}
 use Rattle.cpog_base.specs.declared.status.Status.{Status}
 use Rattle.cpog_base.specs.declared.status.Status.TheVariants as status
 use Rattle.cpog_defs.specs.Orders.{Order}
@@ -47,12 +50,21 @@ pub record CanBeAsked (options : CnfOptions) (f : Contents) : Type 0 where
   pub few : (scenarios bits : ℕ) (classes : Classes) → AreClassesIn options f scenarios bits classes →
       literals (open_template scenarios bits options.gates classes) ≤ TEMPLATE_LIMIT
 
+-- the bytes are within the limit and spell a formula of at most 16777216 variables
+pub record SpellFormula (bytes : List ℕ) : Type 0 where
+  pub within : length bytes ≤ LONG_INPUT_LIMIT
+  pub variables : ℕ
+  pub clauses : List Clause
+  pub spells : SpellsFormula (free_lines bytes) variables clauses
+  pub few : variables ≤ VARIABLE_LIMIT
+
 -- bytes that a command refuses for no cause
 abbrev pub AreGoodFor : Command → List ℕ → Type 0
 AreGoodFor (command.Synth options) = SpellFile (CanBeEncoded (synth_length options))
 AreGoodFor command.Normal = SpellFile (λ f. name_faults f ≡ [])
 AreGoodFor (command.Cnf options) = SpellFile (CanBeAsked options)
 AreGoodFor command.Lrat = SpellRefutation
+AreGoodFor (command.Solve budget) = SpellFormula
 
 -- the words name a command, which refuses the bytes for no cause
 pub record IsGoodRun (words : List (List ℕ)) (bytes : List ℕ) : Type 0 where

@@ -10,6 +10,7 @@ pub mod Encodable
 pub mod Stops
 pub mod Answers
 pub mod Judged
+pub mod Solved
 pub mod Allowed
 pub mod Laws
 pub mod Complete

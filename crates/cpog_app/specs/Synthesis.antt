@@ -7,7 +7,7 @@ use Rattle.cpog_defs.specs.Codes.{AreCodes, open_patterns}
 use Rattle.cpog_defs.specs.Encodings.{Encoding, FitsScenarios, Encodes}
 use Rattle.scenario_check.specs.Equals.{AreDifferent}
 use Rattle.gate_core.specs.Bounds.{AreBounds}
-use Rattle.opcode_assign.specs.Assignments.{IsFirstAssignment, most_gates}
+use Rattle.opcode_assign.specs.Assignments.{IsFirstAssignment}
 use Rattle.pg_text.specs.Contents.{Contents}
 use Rattle.report_text.specs.declared.bound.Bound.{Bound}
 use Rattle.report_text.specs.declared.bound.Bound.TheVariants.{Minimum, Unknown}
@@ -28,7 +28,7 @@ abbrev pub free_patterns : ℕ → ℕ → List (List Bit3)
 free_patterns n bits = replicate n (replicate bits Free)
 
 -- a report of a file: its scenarios, any two different, with their covering pairs, distinct codes, the first assignment, which
--- fits them by no more than most_gates gates, and what the bound compares
+-- fits them by at most 64320 gates, and what the bound compares
 pub record IsSound (f : Contents) (r : ReportValue) : Type 0 where
   pub report : IsReport r
   pub names : r.names ≡ f.operations
@@ -42,7 +42,7 @@ pub record IsSound (f : Contents) (r : ReportValue) : Type 0 where
   pub fits : FitsScenarios r.encoding of_file.scenarios
   pub encodes : Encodes (length f.operations) orders (open_patterns (length orders)) r.bits r.encoding
   pub conditions : IsFirstAssignment (length f.operations) orders (free_patterns (length orders) r.bits) r.bits r.encoding
-  pub few_gates : length r.encoding.gates.gates ≤ most_gates
+  pub few_gates : length r.encoding.gates.gates ≤ 64320
   pub bound : IsBoundOf (length f.operations) orders r.encoding r.bound
 
 -- a sound report of the file over the said bits, with the said budget

@@ -1,9 +1,9 @@
 -- The words of the command line, and the command that they name.
-use Rattle.std.specs.Prelude.{List, [], ◌∷◌, ℕ, suc, zero, ◌&&◌, nat_le, Bool, Option, Some, None, if◌then◌else◌, option_and_then, option_map, codes}
+use Rattle.std.specs.Prelude.{List, [], ◌∷◌, ℕ, suc, zero, ◌&&◌, nat_le, Bool, Option, Some, None, if◌then◌else◌, option_and_then, option_map, unwrap_or, codes}
 use Rattle.std.specs.Fmt.{decimal}
 use Rattle.std.specs.Str.{bytes_eq}
 use Rattle.std.specs.Str.Parse.{digits_value}
-use Rattle.cpog_base.specs.declared.limits.TheConstants.{BIT_LIMIT, DEFAULT_BUDGET}
+use Rattle.cpog_base.specs.declared.limits.TheConstants.{BIT_LIMIT, BUDGET_LIMIT, DEFAULT_BUDGET}
 use Rattle.cpog_app.specs.declared.words.TheConstants.{CNF_GATE_LIMIT}
 use Rattle.cpog_app.specs.declared.words.SaidOptions.{SaidOptions}
 use Rattle.cpog_app.specs.declared.words.SynthOptions.{SynthOptions}
@@ -24,6 +24,10 @@ number_within least most word = if is_number_within least most word then Some (d
 abbrev pub bits_in : List ℕ → Option ℕ
 bits_in = number_within 1 BIT_LIMIT
 
+-- a budget, from 1 to 8388608
+abbrev pub budget_in : List ℕ → Option ℕ
+budget_in = number_within 1 BUDGET_LIMIT
+
 -- ---- options
 
 -- what one of two says, where they don't both say something
@@ -32,35 +36,51 @@ either_said None other = Some other
 either_said (Some n) None = Some (Some n)
 either_said (Some n) (Some m) = None
 
+-- these bits and this budget, where there are both
+abbrev pub both_said : Option (Option ℕ) → Option (Option ℕ) → Option SaidOptions
+both_said bits budget = option_and_then (λ d. option_map (λ n. record { bits = d; budget = n }) budget) bits
+
 -- the options of both, where neither says what the other says
 abbrev pub joined : SaidOptions → SaidOptions → Option SaidOptions
-joined a b = option_map (λ bits. record { bits = bits }) (either_said a.bits b.bits)
+joined a b = both_said (either_said a.bits b.bits) (either_said a.budget b.budget)
 
 -- no option
 abbrev pub unsaid : SaidOptions
-unsaid = record { bits = None }
+unsaid = record { bits = None; budget = None }
 
 -- a number of code bits alone
 abbrev pub bits_alone : ℕ → SaidOptions
-bits_alone bits = record { bits = Some bits }
+bits_alone bits = record { bits = Some bits; budget = None }
 
--- the options that words say, each at most once: the word `--bits` and a number from 1 to 8
+-- a budget alone
+abbrev pub budget_alone : ℕ → SaidOptions
+budget_alone budget = record { bits = None; budget = Some budget }
+
+-- what an option and its value say: `--bits` and a number from 1 to 8, or `--budget` and one from 1 to 8388608
+abbrev pub option_in : List ℕ → List ℕ → Option SaidOptions
+option_in name value =
+    if bytes_eq name (codes "--bits") then option_map bits_alone (bits_in value)
+    else (if bytes_eq name (codes "--budget") then option_map budget_alone (budget_in value) else None)
+
+-- the options that words say, each at most once
 abbrev pub options_in : List (List ℕ) → Option SaidOptions
 options_in [] = Some unsaid
-options_in (option ∷ value ∷ words) =
-    if bytes_eq option (codes "--bits")
-    then option_and_then (λ bits. option_and_then (joined (bits_alone bits)) (options_in words)) (bits_in value) else None
+options_in (name ∷ value ∷ words) = option_and_then (λ one. option_and_then (joined one) (options_in words)) (option_in name value)
 options_in words = None
 
 -- ---- commands
 
--- with what is taken where the words say nothing
-abbrev pub settled : SaidOptions → SynthOptions
-settled said = record { bits = said.bits; budget = DEFAULT_BUDGET }
+-- a command, where this option isn't said
+abbrev pub without : Option ℕ → Option Command → Option Command
+without None command = command
+without (Some said) command = None
 
 -- `synth` and its options
+abbrev pub synth_of : SaidOptions → Option Command
+synth_of said = without said.budget (Some (command.Synth (record { bits = said.bits; budget = DEFAULT_BUDGET })))
+
 abbrev pub synth_in : List (List ℕ) → Option Command
-synth_in words = option_map (λ said. command.Synth (settled said)) (options_in words)
+synth_in words = option_and_then synth_of (options_in words)
 
 -- `normal`, where no words stand behind it
 abbrev pub normal_in : List (List ℕ) → Option Command
@@ -79,12 +99,19 @@ cnf_over gates (Some (suc zero)) = None
 cnf_over gates (Some bits) = Some (command.Cnf (record { gates = gates; bits = Some bits }))
 
 abbrev pub cnf_of : ℕ → SaidOptions → Option Command
-cnf_of gates said = cnf_over gates said.bits
+cnf_of gates said = without said.budget (cnf_over gates said.bits)
 
 -- `cnf`, a number of gates from 0 to 4096, and its options
 abbrev pub cnf_in : List (List ℕ) → Option Command
 cnf_in [] = None
 cnf_in (gates ∷ words) = option_and_then (λ g. option_and_then (cnf_of g) (options_in words)) (number_within 0 CNF_GATE_LIMIT gates)
+
+-- `solve` and its option
+abbrev pub solve_of : SaidOptions → Option Command
+solve_of said = without said.bits (Some (command.Solve (unwrap_or said.budget DEFAULT_BUDGET)))
+
+abbrev pub solve_in : List (List ℕ) → Option Command
+solve_in words = option_and_then solve_of (options_in words)
 
 -- the command that the words name
 abbrev pub command_of : List (List ℕ) → Option Command
@@ -93,4 +120,5 @@ command_of (word ∷ words) =
     if bytes_eq word (codes "synth") then synth_in words
     else (if bytes_eq word (codes "normal") then normal_in words
     else (if bytes_eq word (codes "cnf") then cnf_in words
-    else (if bytes_eq word (codes "lrat") then lrat_in words else None)))
+    else (if bytes_eq word (codes "lrat") then lrat_in words
+    else (if bytes_eq word (codes "solve") then solve_in words else None))))

@@ -10,6 +10,7 @@ use crate::cnf::answer_cnf;
 use crate::lrat::answer_lrat;
 use crate::normal::answer_normal;
 use crate::refusal::Refusal;
+use crate::solve::answer_solve;
 use crate::stop::{Answer, Stop, refuse};
 use crate::synth::answer_synth;
 use crate::words::{Command, read_words};
@@ -73,6 +74,10 @@ fn answer_command<S: Source>(
         Command::Lrat => {
             let bytes = read_input(alloc, source, LONG_INPUT_LIMIT)?;
             answer_lrat(alloc, &bytes)
+        }
+        Command::Solve { budget } => {
+            let bytes = read_input(alloc, source, LONG_INPUT_LIMIT)?;
+            answer_solve(alloc, budget, &bytes)
         }
     }
 }

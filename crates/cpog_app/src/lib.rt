@@ -14,6 +14,7 @@ mod normal;
 mod refusal;
 mod refusing;
 mod run;
+mod solve;
 mod stop;
 mod synth;
 mod synthesis;

@@ -5,7 +5,7 @@ ghost use Rattle.cpog_defs.specs.Codes.{open_patterns};
 ghost use Rattle.cpog_defs.specs.Orders.{Order, IsOrderOf};
 ghost use Rattle.cpog_defs.specs.Encodings.{Encodes};
 ghost use Rattle.cpog_merge.specs.Columns.{count_of};
-ghost use Rattle.opcode_assign.specs.Assignments.{IsFirstAssignment, most_gates};
+ghost use Rattle.opcode_assign.specs.Assignments.{IsFirstAssignment};
 ghost use Rattle.report_text.specs.Report.{IsBound};
 ghost use Rattle.cpog_app.specs.Bits.{synth_length, MayBeAsked};
 ghost use Rattle.cpog_app.specs.Encodable.{IsEncodable};
@@ -45,7 +45,7 @@ fn open_assign(alloc: Global, orders: &[CoveredOrder], bits: u8) -> Result<Encod
     requires enough { length orders.now ≤ 2 ^ bits }
     ensures encodes { IfOk result (Encodes (count_of orders.now) orders.now (open_patterns (length orders.now)) bits) }
     ensures first { IfOk result (IsFirstAssignment (count_of orders.now) orders.now (free_patterns (length orders.now) bits) bits) }
-    ensures few_gates { IfOk result (λ e. length e.gates.gates ≤ most_gates) }
+    ensures few_gates { IfOk result (λ e. length e.gates.gates ≤ 64320) }
 {
     let given = free_patterns(alloc, orders.len(), bits)?;
     match first_assign(alloc, orders, &given, bits) {

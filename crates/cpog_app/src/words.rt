@@ -2,9 +2,9 @@
 //! most once and with its value as the next word.
 ghost use Rattle.std.specs.Prelude.{◌≡◌, ◌<◌, ◌≤◌, map, option_and_then};
 ghost use Rattle.std.specs.String.{string_bytes};
-ghost use Rattle.cpog_app.specs.Words.{number_within, bits_in, bits_alone, joined, settled, options_in, cnf_of, command_of};
+ghost use Rattle.cpog_app.specs.Words.{number_within, bits_in, budget_in, option_in, joined, options_in, synth_of, cnf_of, solve_of, command_of};
 
-use cpog_base::{BIT_LIMIT, DEFAULT_BUDGET};
+use cpog_base::{BIT_LIMIT, BUDGET_LIMIT, DEFAULT_BUDGET};
 use text_rows::whole_number;
 
 /// The most gates that `cnf` may be asked for.
@@ -33,6 +33,8 @@ pub struct CnfOptions {
 pub struct SaidOptions {
     /// The number of code bits, from 1 to 8.
     pub bits: Option<u8>,
+    /// How many numbers a search may write to a log, from 1 to 8388608.
+    pub budget: Option<u32>,
 }
 
 /// What the words of the command line ask for.
@@ -46,6 +48,8 @@ pub enum Command {
     Cnf { options: CnfOptions },
     /// Judge whether the log that is read refutes the formula before it.
     Lrat,
+    /// Decide the formula that is read, by a search that may write so many numbers to a log.
+    Solve { budget: u32 },
 }
 
 /// The number that a word says in decimal digits, without a sign and without a leading zero, where it is in this range.
@@ -70,25 +74,56 @@ fn bits_in(word: &str) -> Option<u8>
     Some(bits as u8)
 }
 
-impl SaidOptions {
-    /// These and a number of code bits, where they say none.
-    fn and_bits(self, bits: u8) -> Option<SaidOptions>
-        ensures { result ≡ joined self (bits_alone bits) }
-    {
-        match self.bits {
-            None => Some(SaidOptions { bits: Some(bits) }),
-            Some(_) => None,
-        }
-    }
+/// The budget that a word says.
+fn budget_in(word: &str) -> Option<u32>
+    ensures { result ≡ budget_in word.now }
+{
+    number_within(word, 1, BUDGET_LIMIT)
+}
 
-    /// With what is taken where the words say nothing.
-    fn settled(self) -> SynthOptions
-        ensures { result ≡ settled self }
+/// What an option and its value say.
+fn option_in(name: &str, value: &str) -> Option<SaidOptions>
+    ensures { result ≡ option_in name.now value.now }
+{
+    if name == "--bits" {
+        let bits = bits_in(value)?;
+        return Some(SaidOptions {
+            bits: Some(bits),
+            budget: None,
+        });
+    }
+    if name == "--budget" {
+        let budget = budget_in(value)?;
+        return Some(SaidOptions {
+            bits: None,
+            budget: Some(budget),
+        });
+    }
+    None
+}
+
+impl SaidOptions {
+    /// No option.
+    const NONE: SaidOptions = SaidOptions {
+        bits: None,
+        budget: None,
+    };
+
+    /// These and others, where they don't both say one option.
+    fn joined(self, other: SaidOptions) -> Option<SaidOptions>
+        ensures { result ≡ joined self other }
     {
-        SynthOptions {
-            bits: self.bits,
-            budget: DEFAULT_BUDGET,
-        }
+        let bits = match (self.bits, other.bits) {
+            (None, bits) => bits,
+            (bits, None) => bits,
+            (Some(_), Some(_)) => return None,
+        };
+        let budget = match (self.budget, other.budget) {
+            (None, budget) => budget,
+            (budget, None) => budget,
+            (Some(_), Some(_)) => return None,
+        };
+        Some(SaidOptions { bits, budget })
     }
 }
 
@@ -98,19 +133,39 @@ fn options_after(said: SaidOptions, words: &[String]) -> Option<SaidOptions>
 {
     match words {
         [] => Some(said),
-        [option, value, rest @ ..] if option.as_str() == "--bits" => {
-            let bits = bits_in(value.as_str())?;
-            let both = said.and_bits(bits)?;
+        [name, value, rest @ ..] => {
+            let one = option_in(name.as_str(), value.as_str())?;
+            let both = said.joined(one)?;
             options_after(both, rest)
         }
         _ => None,
     }
 }
 
-/// The command `cnf` over so many gates with these options: codes have two bits at least.
+/// The command `synth` with these options, which say no budget.
+fn synth_of(said: SaidOptions) -> Option<Command>
+    ensures { result ≡ synth_of said }
+{
+    match said.budget {
+        None => {
+            let options = SynthOptions {
+                bits: said.bits,
+                budget: DEFAULT_BUDGET,
+            };
+            Some(Command::Synth { options })
+        }
+        Some(_) => None,
+    }
+}
+
+/// The command `cnf` over so many gates with these options: codes have two bits at least, and no budget is said.
 fn cnf_of(gates: u32, said: SaidOptions) -> Option<Command>
     ensures { result ≡ cnf_of gates said }
 {
+    match said.budget {
+        None => {}
+        Some(_) => return None,
+    }
     if said.bits == Some(1) {
         return None;
     }
@@ -121,6 +176,19 @@ fn cnf_of(gates: u32, said: SaidOptions) -> Option<Command>
     Some(Command::Cnf { options })
 }
 
+/// The command `solve` with these options, which say no bits.
+fn solve_of(said: SaidOptions) -> Option<Command>
+    ensures { result ≡ solve_of said }
+{
+    match said.bits {
+        None => {
+            let budget = said.budget.unwrap_or(DEFAULT_BUDGET);
+            Some(Command::Solve { budget })
+        }
+        Some(_) => None,
+    }
+}
+
 /// The command that the words name, without the program's name. There is none where they are outside the usage line.
 pub fn read_words(words: &[String]) -> Option<Command>
     ensures { result ≡ command_of (map string_bytes words.now) }
@@ -129,14 +197,17 @@ pub fn read_words(words: &[String]) -> Option<Command>
         [word] if word.as_str() == "normal" => Some(Command::Normal),
         [word] if word.as_str() == "lrat" => Some(Command::Lrat),
         [word, options @ ..] if word.as_str() == "synth" => {
-            let said = options_after(SaidOptions { bits: None }, options)?;
-            let options = said.settled();
-            Some(Command::Synth { options })
+            let said = options_after(SaidOptions::NONE, options)?;
+            synth_of(said)
         }
         [word, gates, options @ ..] if word.as_str() == "cnf" => {
             let gates = number_within(gates.as_str(), 0, CNF_GATE_LIMIT)?;
-            let said = options_after(SaidOptions { bits: None }, options)?;
+            let said = options_after(SaidOptions::NONE, options)?;
             cnf_of(gates, said)
+        }
+        [word, options @ ..] if word.as_str() == "solve" => {
+            let said = options_after(SaidOptions::NONE, options)?;
+            solve_of(said)
         }
         _ => None,
     }

@@ -9,7 +9,7 @@ const USAGE: &[u8] =
 
 #[test]
 fn other_words_print_the_usage_line(rt: HostRuntime) -> Result<(), Fail> {
-    let table: [&[&str]; 26] = [
+    let table: [&[&str]; 28] = [
         &[],
         &["help"],
         &["Synth"],
@@ -36,6 +36,8 @@ fn other_words_print_the_usage_line(rt: HostRuntime) -> Result<(), Fail> {
         &["cnf", "1", "--bits", "2", "--bits", "2"],
         &["cnf", "1", "2"],
         &["lrat", "x"],
+        &["solve", "--budget", "0"],
+        &["solve", "--bits", "2"],
     ];
     for words in table {
         let ending = run(rt.alloc(), words, b"scenario A = a\n")?;

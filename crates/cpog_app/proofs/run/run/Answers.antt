@@ -1,7 +1,7 @@
 use Rattle.std.proofs.Common.{map, sym, subst}
 use Rattle.std.specs.String.{string_bytes}
 use Rattle.cpog_app.specs.Allowed.{Input, IsAllowed}
-use Rattle.cpog_app.proofs.EndingLemmas.{ends_printed}
+use Rattle.cpog_app.proofs.EndingLemmas.{ends_printed, no_write_fault, read_fault_is}
 use Rattle.cpog_app.proofs.run.run.Goals as goal
 
 pub returns-in-Ok-write_all-clause-ends : goal.returns-in-Ok-write_all-clause-ends
@@ -16,3 +16,15 @@ returns-in-Ok-write_all-clause-ends g c =
     ends_printed (map string_bytes c.args.words.now) input (g.K.Sink.taken c.args.sink.now) (g.K.Sink.taken c.write_all.new.sink) c.in-Ok.answer.status c.as_slice.result.now
     (subst (λ output. IsAllowed (map string_bytes c.args.words.now) input c.in-Ok.answer.status output) (sym c.as_slice.ensures.value) c.in-Ok.ensures.allowed)
     c.in-Ok-write_all.ensures.ok
+
+pub returns-in-Ok-write_all-clause-read_fault : goal.returns-in-Ok-write_all-clause-read_fault
+returns-in-Ok-write_all-clause-read_fault g c = λ e. (read_fault_is (map string_bytes c.args.words.now) _ c.in-Ok.answer.status c.in-Ok.answer.output.items c.in-Ok.ensures.allowed e).rose
+
+pub returns-in-Ok-write_all-clause-write_fault : goal.returns-in-Ok-write_all-clause-write_fault
+returns-in-Ok-write_all-clause-write_fault g c = λ e. absurd (no_write_fault (map string_bytes c.args.words.now) _ c.in-Ok.answer.status c.in-Ok.answer.output.items c.in-Ok.ensures.allowed e)
+
+pub returns-in-Ok-write_all-clause-steady : goal.returns-in-Ok-write_all-clause-steady
+returns-in-Ok-write_all-clause-steady g c = λ steady e. (read_fault_is (map string_bytes c.args.words.now) _ c.in-Ok.answer.status c.in-Ok.answer.output.items c.in-Ok.ensures.allowed e).unsteady steady
+
+pub returns-in-Ok-write_all-clause-room : goal.returns-in-Ok-write_all-clause-room
+returns-in-Ok-write_all-clause-room g c = λ room. no_write_fault (map string_bytes c.args.words.now) _ c.in-Ok.answer.status c.in-Ok.answer.output.items c.in-Ok.ensures.allowed
