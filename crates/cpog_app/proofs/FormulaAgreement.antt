@@ -79,8 +79,8 @@ module _ (options : CnfOptions) (f : Contents) where
   one_of_size =
       one_either large formula (one_at status.Limit (IsLargeAnswer options f) one_large_answer) (one_at status.Ok (IsFormulaAnswer options f) one_formula_answer)
       (λ s t x y h k.
-        let same = same_template h.1.scenarios k.1.scenarios h.1.bits k.1.bits h.1.classes k.1.classes h.1.in_file k.1.in_file in
-        absurd (omega (arith, h.1.large, k.1.few, ap literals same)))
+      let same = same_template h.1.scenarios k.1.scenarios h.1.bits k.1.bits h.1.classes k.1.classes h.1.in_file k.1.in_file in
+      absurd (omega (arith, h.1.large, k.1.few, ap literals same)))
 
   can_be_encoded : (n b : ℕ) (cs : Classes) → AreClassesIn options f n b cs → CanBeEncoded (cnf_length options) f
   can_be_encoded n b cs h = record {

@@ -73,8 +73,7 @@ module _ (options : CnfOptions) (f : Contents) (scenarios bits : ℕ) (classes :
   asks_for_encoding =
       let alike = orders_alike f in_file.orders in_file.of_file in_file.some in
       let n : length (free_patterns scenarios bits) ≡ scenarios = length-replicate scenarios (replicate bits Free) in
-      subst (λ m. IsSatisfiable (open_template scenarios bits options.gates classes) ↔ HasEncodingWithin (count_of in_file.orders) in_file.orders (open_patterns m) bits options.gates) n
-      (
+      subst (λ m. IsSatisfiable (open_template scenarios bits options.gates classes) ↔ HasEncodingWithin (count_of in_file.orders) in_file.orders (open_patterns m) bits options.gates) n (
         encoding_from Second in_file.orders (free_patterns scenarios bits) in_file.columns classes bits options.gates alike in_file.are_columns in_file.are_classes patterns_fit,
         satisfied_by Second in_file.orders (free_patterns scenarios bits) in_file.columns classes bits options.gates alike in_file.are_columns in_file.are_classes in_file.some two patterns_fit,
       )

@@ -1,18 +1,14 @@
 -- The answers of `solve` to a text: one status, and one output where it isn't that of a find.
-use Rattle.std.proofs.Common.{◌≡◌, ◌≢◌, ℕ, Bool, true, false, List, [], ◌∷◌, length, refl, sym, ap, ◌∙◌, arith, inl, inr}
-use Rattle.std.specs.List.{flat_map}
+use Rattle.std.proofs.Common.{◌≡◌, ◌≢◌, ℕ, List, sym, ap, ◌∙◌, arith, inl, inr}
 use Rattle.cpog_base.specs.declared.status.Status.{Status}
 use Rattle.cpog_base.specs.declared.status.Status.TheVariants as status
 use Rattle.clause_arena.specs.Clauses.{Clause}
 use Rattle.text_rows.specs.FirstBad.{IsFirstBad}
 use Rattle.text_rows.specs.Lines.{free_lines}
-use Rattle.text_rows.specs.Words.{tokens}
 use Rattle.text_rows.proofs.WritingLemmas.{bad_lines_told}
 use Rattle.dimacs_text.proofs.OneTextLemmas.{one_formula}
-use Rattle.dimacs_text.specs.Formulas.{SpellsFormula, header_words, AreClauses, body_words, clauses_words}
-use Rattle.dimacs_text.specs.Logs.{is_passed, SpellsIf}
-use Rattle.dimacs_text.specs.Texts.{IsFormulaText, IsFront}
-use Rattle.dimacs_text.proofs.CnfLemmas.{formula_behind, clauses_told}
+use Rattle.dimacs_text.specs.Formulas.{SpellsFormula}
+use Rattle.dimacs_text.specs.Texts.{IsFormulaText}
 use Rattle.cpog_app.specs.declared.refusal.Refusal.TheVariants as refusal
 use Rattle.cpog_app.specs.Refusal.{refusal_text}
 use Rattle.cpog_app.specs.Solved.{IsSolveAnswer}

@@ -1,13 +1,12 @@
 -- The texts of what is found.
-use Rattle.std.proofs.Common.{◌≡◌, ℕ, zero, suc, ◌+◌, ◌<◌, Bool, false, List, [], ◌∷◌, ◌++◌, length, map, take, slice_index_or, refl, sym, ap, ◌∙◌, arith, append_assoc, lit<, inl, inr}
+use Rattle.std.proofs.Common.{◌≡◌, ℕ, zero, suc, ◌+◌, ◌<◌, Bool, false, List, [], ◌∷◌, ◌++◌, length, map, take, slice_index_or, sym, ap, ◌∙◌, arith, append_assoc, lit<, inl, inr}
 use Rattle.std.specs.Prelude.{codes, not}
 use Rattle.std.specs.Fmt.{decimal}
 use Rattle.std.proofs.lemmas.Fmt.{decimal_digit}
 use Rattle.std.proofs.lemmas.List.{append-nil}
 use Rattle.clause_arena.specs.Clauses.{Lit, Clause}
 use Rattle.line_text.specs.Lines.{text_of}
-use Rattle.text_rows.specs.Words.{spaced}
-use Rattle.dimacs_text.specs.Logs.{ended, lit_word}
+use Rattle.dimacs_text.specs.Logs.{lit_word}
 use Rattle.dimacs_text.specs.Writing.{blanked}
 use Rattle.dimacs_text.proofs.WritingLemmas.{spaced_behind}
 use Rattle.cpog_app.specs.Solved.{true_literals, values_line, values_text, outcome_text, IsFound}

@@ -109,6 +109,7 @@ joined_behind a b None = sym (none (joined a b))
   where
     nothing : SaidOptions → Option SaidOptions
     nothing s = None
+
     none : (o : Option SaidOptions) → option_and_then nothing o ≡ None
     none None = refl
     none (Some s) = refl
@@ -167,9 +168,11 @@ option_may name value said e = named _ _ e
     bits : (o : Option ℕ) → bits_in value ≡ o → option_map bits_alone o ≡ Some said → MaySay said
     bits None p f = absurd (none-some said f)
     bits (Some n) p f = subst MaySay (same_Some (bits_alone n) said f) (said_within 1 8 value n p, tt)
+
     budget : (o : Option ℕ) → budget_in value ≡ o → option_map budget_alone o ≡ Some said → MaySay said
     budget None p f = absurd (none-some said f)
     budget (Some n) p f = subst MaySay (same_Some (budget_alone n) said f) (tt, said_within 1 8388608 value n p)
+
     named : (t u : Bool) → (if t then option_map bits_alone (bits_in value) else (if u then option_map budget_alone (budget_in value) else None)) ≡ Some said → MaySay said
     named true u f = bits (bits_in value) refl f
     named false true f = budget (budget_in value) refl f
@@ -185,6 +188,7 @@ options_may (name ∷ value ∷ words) said e = first (option_in name value) ref
         ((o : SaidOptions) → options_in words ≡ Some o → MaySay o) → MaySay said
     behind one None h p f may = absurd (none-some said f)
     behind one (Some others) h p f may = joined_may one others said h (may others p) f
+
     first : (one : Option SaidOptions) → option_in name value ≡ one → option_and_then (λ s. option_and_then (joined s) (options_in words)) one ≡ Some said →
         ((o : SaidOptions) → options_in words ≡ Some o → MaySay o) → MaySay said
     first None p f may = absurd (none-some said f)
@@ -242,6 +246,7 @@ cnf_may (word ∷ words) c f = over (number_within 0 4096 word) refl f
     with_said : (gates : ℕ) (said : Option SaidOptions) → gates ≤ 4096 → options_in words ≡ said → option_and_then (cnf_of gates) said ≡ Some c → MayBeNamed c
     with_said gates None few p f = absurd (none-some c f)
     with_said gates (Some said) few p f = over_may gates said.bits c few (options_may words said p).0 (unsaid_is said.budget (cnf_over gates said.bits) c f)
+
     over : (gates : Option ℕ) → number_within 0 4096 word ≡ gates → option_and_then (λ g. option_and_then (cnf_of g) (options_in words)) gates ≡ Some c → MayBeNamed c
     over None p f = absurd (none-some c f)
     over (Some gates) p f = with_said gates (options_in words) (said_within 0 4096 word gates p).1 refl f

@@ -6,7 +6,6 @@ use Rattle.std.specs.Str.Parse.{digits_value}
 use Rattle.cpog_base.specs.declared.limits.TheConstants.{BIT_LIMIT, BUDGET_LIMIT, DEFAULT_BUDGET}
 use Rattle.cpog_app.specs.declared.words.TheConstants.{CNF_GATE_LIMIT}
 use Rattle.cpog_app.specs.declared.words.SaidOptions.{SaidOptions}
-use Rattle.cpog_app.specs.declared.words.SynthOptions.{SynthOptions}
 use Rattle.cpog_app.specs.declared.words.Command.{Command}
 use Rattle.cpog_app.specs.declared.words.Command.TheVariants as command
 

@@ -62,7 +62,9 @@ fn comment_of(alloc: Global, gates: u32, question: &Question) -> Result<String, 
     let scenarios = question.given.as_slice().len();
     let bits = question.bits;
     let classes = question.classes.columns().len();
-    let text = format!(in alloc; "cpog template 2 scenarios {scenarios} bits {bits} gates {gates} classes {classes}")?;
+    let text = format!(in alloc;
+        "cpog template 2 scenarios {scenarios} bits {bits} gates {gates} classes {classes}"
+    )?;
     Ok(text)
 }
 

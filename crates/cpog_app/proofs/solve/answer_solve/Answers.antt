@@ -5,10 +5,13 @@ use Rattle.cpog_app.proofs.solve.answer_solve.Goals as goal
 pub returns-clause-ok : goal.returns-clause-ok
 returns-clause-ok c =
     let f = c.in_ok-formula.formula in
-    inr (refl, record {
-      variables = f.variables;
-      clauses = f.clauses.clauses;
-      spells = c.in_ok-formula.ensures.spells;
-      few = c.in_ok-formula.ensures.few;
-      found = outcome_found c.args.budget f.variables f.clauses.clauses c.in_ok-outcome.outcome c.in_ok-output.output.items c.in_ok-outcome.ensures c.in_ok-output.ensures;
-    })
+    inr (
+      refl,
+      record {
+        variables = f.variables;
+        clauses = f.clauses.clauses;
+        spells = c.in_ok-formula.ensures.spells;
+        few = c.in_ok-formula.ensures.few;
+        found = outcome_found c.args.budget f.variables f.clauses.clauses c.in_ok-outcome.outcome c.in_ok-output.output.items c.in_ok-outcome.ensures c.in_ok-output.ensures;
+      },
+    )
