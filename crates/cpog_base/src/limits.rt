@@ -10,9 +10,9 @@ pub enum Counted {
     Scenarios,
     Operations,
     Bits,
-    /// `cnf`: the literals of the formula that it would write. No command gives it yet.
+    /// `cnf`: the literals of the formula that it would write.
     Template,
-    /// `solve` and `lrat`: the variables of the formula that they read. No command gives it yet.
+    /// `solve` and `lrat`: the variables of the formula that they read.
     Variables,
 }
 
