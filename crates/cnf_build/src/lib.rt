@@ -26,4 +26,4 @@ pub use building::build;
 pub use decoding::{Decoded, decode};
 pub use encoding::encode;
 pub use gate_template::{Shape, Template};
-pub use size::{GATE_LIMIT, TemplateSize, template_size};
+pub use size::{GATE_LIMIT, TemplateSize, gate_limit_is_this, template_size};

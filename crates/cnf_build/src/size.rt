@@ -20,6 +20,11 @@ use gate_template::Template;
 /// The most gates of a template, so that its counts are far below 2 to the power 64.
 pub const GATE_LIMIT: u32 = 65535;
 
+/// A law: the limit is this number.
+pub fn gate_limit_is_this()
+    ensures { GATE_LIMIT ≡ 65535 }
+{}
+
 /// How many variables, clauses and literals a template has.
 #[derive(Clone, Copy, Debug, PartialEq, Eq)]
 pub struct TemplateSize {

@@ -81,6 +81,7 @@ IsCommandAnswer (command.Cnf options) = IsReadingAnswer INPUT_LIMIT (IsGraphText
 IsCommandAnswer command.Lrat = IsReadingAnswer LONG_INPUT_LIMIT IsLratAnswer
 IsCommandAnswer (command.Solve budget) = IsReadingAnswer LONG_INPUT_LIMIT (IsSolveAnswer budget)
 
+-- the answers to words: those of the command that they name, or the usage line
 abbrev pub IsWordsAnswer : Option Command → Input → Status → List ℕ → Type 0
 IsWordsAnswer None input = At status.Usage (IsUsageAnswer input)
 IsWordsAnswer (Some command) input = IsCommandAnswer command input
@@ -104,6 +105,7 @@ pub record IsCutShort (words : List (List ℕ)) (input : Input) (taken taken_aft
   pub allowed : IsAllowed words input status output
   pub front : TakesFront taken taken_after output
 
+-- how a run ends, by its status: nothing was written, a front was, or all
 abbrev pub Ends : List (List ℕ) → Input → Option (List ℕ) → Option (List ℕ) → Status → Type 0
 Ends words input taken taken_after status.Memory = Keeps taken taken_after
 Ends words input taken taken_after status.WriteFault = IsCutShort words input taken taken_after

@@ -26,6 +26,7 @@ pub record IsFormsAnswer (f : Contents) (output : List ℕ) : Type 0 where
   pub of_file : AreNormalsOf f normals
   pub output_is : output ≡ normal_text f normals
 
+-- the answers to `normal`: names are refused, or the forms
 abbrev pub IsNormalAnswer : Contents → Status → List ℕ → Type 0
 IsNormalAnswer f s output = IsNamesRefusal f s output ⊎ At status.Ok (IsFormsAnswer f) s output
 
@@ -38,6 +39,7 @@ pub record IsReportAnswer (options : SynthOptions) (f : Contents) (output : List
   pub output_is : output ≡ text_of (report_lines report)
   pub controller : PrintsController f.operations synthesis.sound.orders report.encoding.codes output
 
+-- the answers to `synth`: its scenarios are refused, or the report
 abbrev pub IsSynthAnswer : SynthOptions → Contents → Status → List ℕ → Type 0
 IsSynthAnswer options f s output = IsEncodingRefusal (synth_length options) f s output ⊎ At status.Ok (IsReportAnswer options f) s output
 

@@ -37,6 +37,7 @@ pub record IsPassedAnswer (bytes : List ℕ) (output : List ℕ) : Type 0 where
   pub passed : IsPassed bytes what limit
   pub output_is : output ≡ refusal_text (refusal.Limit what limit)
 
+-- one of these, in this order
 abbrev pub IsTextRefusal : List ℕ → Status → List ℕ → Type 0
 IsTextRefusal bytes s output = At status.Text (IsBadLineAnswer bytes) s output ⊎ At status.Limit (IsPassedAnswer bytes) s output
 
@@ -48,6 +49,7 @@ pub record IsNameFaultAnswer (f : Contents) (output : List ℕ) : Type 0 where
   pub first : IsNameFault f fault
   pub output_is : IsNamesLine fault output
 
+-- at their status
 abbrev pub IsNamesRefusal : Contents → Status → List ℕ → Type 0
 IsNamesRefusal f = At status.Names (IsNameFaultAnswer f)
 
@@ -106,6 +108,7 @@ pub record IsManyAnswer (asked : CodeLength) (f : Contents) (output : List ℕ) 
   pub many : 2 ^ bits < length orders
   pub output_is : output ≡ refusal_text (refusal.Limit counted.Bits bits)
 
+-- one of these, in this order
 abbrev pub IsScenarioRefusal : CodeLength → Contents → Status → List ℕ → Type 0
 IsScenarioRefusal asked f s output =
     At status.Names (IsEmptyAnswer f) s output

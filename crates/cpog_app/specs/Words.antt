@@ -74,10 +74,11 @@ abbrev pub without : Option ℕ → Option Command → Option Command
 without None command = command
 without (Some said) command = None
 
--- `synth` and its options
+-- `synth` by its options, which say no budget
 abbrev pub synth_of : SaidOptions → Option Command
 synth_of said = without said.budget (Some (command.Synth (record { bits = said.bits; budget = DEFAULT_BUDGET })))
 
+-- the words behind `synth`
 abbrev pub synth_in : List (List ℕ) → Option Command
 synth_in words = option_and_then synth_of (options_in words)
 
@@ -97,6 +98,7 @@ cnf_over gates None = Some (command.Cnf (record { gates = gates; bits = None }))
 cnf_over gates (Some (suc zero)) = None
 cnf_over gates (Some bits) = Some (command.Cnf (record { gates = gates; bits = Some bits }))
 
+-- the same by the options, which say no budget
 abbrev pub cnf_of : ℕ → SaidOptions → Option Command
 cnf_of gates said = without said.budget (cnf_over gates said.bits)
 
@@ -105,10 +107,11 @@ abbrev pub cnf_in : List (List ℕ) → Option Command
 cnf_in [] = None
 cnf_in (gates ∷ words) = option_and_then (λ g. option_and_then (cnf_of g) (options_in words)) (number_within 0 CNF_GATE_LIMIT gates)
 
--- `solve` and its option
+-- `solve` by its options, which say no bits
 abbrev pub solve_of : SaidOptions → Option Command
 solve_of said = without said.bits (Some (command.Solve (unwrap_or said.budget DEFAULT_BUDGET)))
 
+-- the words behind `solve`
 abbrev pub solve_in : List (List ℕ) → Option Command
 solve_in words = option_and_then solve_of (options_in words)
 

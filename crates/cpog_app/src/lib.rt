@@ -23,4 +23,7 @@ mod words;
 pub use laws::{allowed_answers_agree, runs_are_complete};
 pub use refusal::{Refusal, refusal_line};
 pub use run::run_cpog;
-pub use words::{CNF_GATE_LIMIT, CnfOptions, Command, SaidOptions, SynthOptions, read_words};
+pub use words::{
+    CNF_GATE_LIMIT, CnfOptions, Command, SaidOptions, SynthOptions, cnf_gate_limit_is_this,
+    read_words,
+};

@@ -10,6 +10,11 @@ use text_rows::whole_number;
 /// The most gates that `cnf` may be asked for.
 pub const CNF_GATE_LIMIT: u32 = 4096;
 
+/// A law: the limit is this number.
+pub fn cnf_gate_limit_is_this()
+    ensures { CNF_GATE_LIMIT ≡ 4096 }
+{}
+
 /// How a report is to be made.
 #[derive(Clone, Copy, Debug, PartialEq, Eq)]
 pub struct SynthOptions {

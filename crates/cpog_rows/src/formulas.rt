@@ -28,7 +28,11 @@ const FOUR_SCENARIOS: &[u8] = b"scenario A = a\nscenario B = b\nscenario C = c\n
 
 #[test]
 fn a_formula_without_a_gate_is_printed(rt: HostRuntime) -> Result<(), Fail> {
-    let ending = run(rt.alloc(), &["cnf", "0"], b"scenario A = a\nscenario B = b\n")?;
+    let ending = run(
+        rt.alloc(),
+        &["cnf", "0"],
+        b"scenario A = a\nscenario B = b\n",
+    )?;
     assert_eq!(rt; ending.status, Status::Ok);
     assert_eq!(rt; ending.taken.as_slice(), TWO_SCENARIOS);
     Ok(())
@@ -47,8 +51,16 @@ fn formulas_say_their_size(rt: HostRuntime) -> Result<(), Fail> {
             Status::Ok,
             b"c cpog template 2 scenarios 4 bits 2 gates 3 classes 4\np cnf 75 479\n",
         ),
-        (&["cnf", "4096"], Status::Limit, b"cpog: limit: template 16777216\n"),
-        (&["cnf", "4096", "--bits", "8"], Status::Limit, b"cpog: limit: template 16777216\n"),
+        (
+            &["cnf", "4096"],
+            Status::Limit,
+            b"cpog: limit: template 16777216\n",
+        ),
+        (
+            &["cnf", "4096", "--bits", "8"],
+            Status::Limit,
+            b"cpog: limit: template 16777216\n",
+        ),
     ];
     for (words, status, want) in table {
         let ending = run(rt.alloc(), words, FOUR_SCENARIOS)?;
@@ -62,13 +74,21 @@ fn formulas_say_their_size(rt: HostRuntime) -> Result<(), Fail> {
 fn what_can_not_be_encoded_has_no_formula(rt: HostRuntime) -> Result<(), Fail> {
     let table: [(&[u8], Status, &[u8]); 4] = [
         (b"", Status::Names, b"cpog: names: no scenario\n"),
-        (b"scenario A = a -> a\n", Status::Cyclic, b"cpog: cyclic: scenario A: operation a\n"),
+        (
+            b"scenario A = a -> a\n",
+            Status::Cyclic,
+            b"cpog: cyclic: scenario A: operation a\n",
+        ),
         (
             b"scenario A = a\nscenario B = a\n",
             Status::Equal,
             b"cpog: equal: scenario B: scenario A\n",
         ),
-        (b"scenario A = a ->\n", Status::Text, b"cpog: text: line 1\n"),
+        (
+            b"scenario A = a ->\n",
+            Status::Text,
+            b"cpog: text: line 1\n",
+        ),
     ];
     for (input, status, want) in table {
         let ending = run(rt.alloc(), &["cnf", "0"], input)?;

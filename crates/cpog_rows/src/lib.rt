@@ -29,8 +29,8 @@ mod one_bit;
 #[cfg(test)]
 mod refutations;
 #[cfg(test)]
-mod searches;
-#[cfg(test)]
 mod running;
+#[cfg(test)]
+mod searches;
 #[cfg(test)]
 mod words;
