@@ -1,15 +1,20 @@
 -- The texts of what is found.
-use Rattle.std.proofs.Common.{◌≡◌, ℕ, zero, suc, ◌+◌, ◌<◌, Bool, false, List, [], ◌∷◌, ◌++◌, length, map, take, slice_index_or, sym, ap, ◌∙◌, arith, append_assoc, lit<, inl, inr}
+use Rattle.std.proofs.Common.{◌≡◌, ℕ, zero, suc, ◌+◌, ◌<◌, ◌≤◌, Bool, false, List, [], ◌∷◌, ◌++◌, length, map, take, slice_index_or, refl, sym, ap, subst, ◌∙◌, arith, append_assoc, lit<, inl, inr}
 use Rattle.std.specs.Prelude.{codes, not}
 use Rattle.std.specs.Fmt.{decimal}
 use Rattle.std.proofs.lemmas.Fmt.{decimal_digit}
 use Rattle.std.proofs.lemmas.List.{append-nil}
-use Rattle.clause_arena.specs.Clauses.{Lit, Clause}
+use Rattle.clause_arena.specs.Clauses.{Lit, Clause, In}
 use Rattle.line_text.specs.Lines.{text_of}
-use Rattle.dimacs_text.specs.Logs.{lit_word}
-use Rattle.dimacs_text.specs.Writing.{blanked}
+use Rattle.proof_check.specs.Lines.{Line}
+use Rattle.proof_check.specs.Following.{Live, first_live, after, AllFollow}
+use Rattle.proof_check.specs.Progress.{IsProgress}
+use Rattle.proof_check.proofs.RefuteLemmas.{no_solution}
+use Rattle.dimacs_text.specs.Logs.{lit_word, LitsWithin, SpellsLog}
+use Rattle.dimacs_text.specs.Writing.{blanked, log_lines, LinesWithin}
 use Rattle.dimacs_text.proofs.WritingLemmas.{spaced_behind}
 use Rattle.cpog_app.specs.Solved.{true_literals, values_line, values_text, outcome_text, IsFound}
+use Rattle.cpog_app.specs.Written.{IsWritten, IsFindWritten}
 use Rattle.sat_engine.specs.declared.outcome.Outcome.{Outcome}
 use Rattle.sat_engine.specs.declared.outcome.Outcome.TheVariants.{Sat, Refuted, Open}
 use Rattle.sat_engine.specs.Outcomes.{IsOutcomeOf}
@@ -64,10 +69,40 @@ values_written values n1 n2 n3 first second third =
     third ∙ (ap (λ t. t ++ 48 ∷ 10 ∷ []) (second ∙ ap (λ t. t ++ blanked words) first)
     ∙ (ap (λ t. codes "s SATISFIABLE\nv " ++ t) (closed (blanked words)) ∙ sym (ap (λ t. text_of (codes "s SATISFIABLE" ∷ t ∷ [])) line)))
 
+-- ---- the lines of a log
+
+lits_within : (v : ℕ) (c : Clause) → ((l : Lit) → In l c → l.var ≤ v) → LitsWithin 2147483647 c → LitsWithin v c
+lits_within v [] few h = tt
+lits_within v (l ∷ c) few h = ((h.0.0, few l (inl refl)), lits_within v c (λ m i. few m (inr i)) h.1)
+
+-- where all lines follow, no variable is greater than those of the formula
+all_within : (v n : ℕ) (live : Live) (lines : List Line) → AllFollow v n live lines → LinesWithin 2147483647 lines → LinesWithin v lines
+all_within v n live [] follow h = tt
+all_within v n live (Line.Add id lits hints ∷ lines) follow h =
+    (lits_within v lits follow.0.0.within h.0, all_within v n (after live (Line.Add id lits hints)) lines follow.1 h.1)
+all_within v n live (Line.Del ids ∷ lines) follow h = (tt, all_within v n (after live (Line.Del ids)) lines follow.1 h.1)
+
+progress_follows : (v n : ℕ) (live : Live) (known : List Clause) (lines : List Line) → IsProgress v n live known lines → AllFollow v n live lines
+progress_follows v n live known [] p = tt
+progress_follows v n live known (Line.Add id lits hints ∷ lines) p =
+    (p.0, progress_follows v n (after live (Line.Add id lits hints)) (lits ∷ known) lines p.2)
+progress_follows v n live known (Line.Del ids ∷ lines) p = absurd p
+
+-- so they spell the log
+log_spelled : (v first : ℕ) (cs : List Clause) (log : List Line) → v ≤ 16777216 → first ≡ length cs → AllFollow v (length cs) (first_live cs) log → IsWritten first log → SpellsLog v (length cs) (log_lines log) log
+log_spelled v first cs log few same follow written =
+    subst (λ (n : ℕ). SpellsLog v n (log_lines log) log) same
+    (written.1 v (omega (arith, few)) (all_within v (length cs) (first_live cs) log follow written.0))
+
 -- ---- what is found
 
 -- the text of an outcome says what it is
-pub outcome_found : (budget v : ℕ) (cs : List Clause) (o : Outcome) (x : List ℕ) → IsOutcomeOf v cs budget o → x ≡ outcome_text o → IsFound budget v cs x
-outcome_found budget v cs (Sat values) x h e = inl (record { values = values.items; each = h.0; satisfies = h.1; output_is = e })
-outcome_found budget v cs (Refuted log) x h e = inr (inl (record { log = log.lines; refutes = h.1; below = h.2; output_is = e }))
-outcome_found budget v cs (Open log) x h e = inr (inr (record { log = log.lines; progress = h.1; spends = h.2; small = h.3; output_is = e }))
+pub outcome_found : (budget v : ℕ) (cs : List Clause) (o : Outcome) (x : List ℕ) → v ≤ 16777216 → IsOutcomeOf v cs budget o → x ≡ outcome_text o → IsFindWritten o → IsFound budget v cs x
+outcome_found budget v cs (Sat values) x few h e written = inl (record { values = values.items; each = h.0; satisfies = h.1; output_is = e })
+outcome_found budget v cs (Refuted log) x few h e written =
+    let spells = log_spelled v log.first cs log.lines few h.0 h.1.follow written in
+    inr (inl (record { log = log.lines; spells = spells; refutes = h.1; unsatisfiable = no_solution v cs log.lines h.1; below = h.2; output_is = e }))
+outcome_found budget v cs (Open log) x few h e written =
+    let follow = progress_follows v (length cs) (first_live cs) cs log.lines h.1 in
+    let spells = log_spelled v log.first cs log.lines few h.0 follow written in
+    inr (inr (record { log = log.lines; spells = spells; progress = h.1; spends = h.2; small = h.3; output_is = e }))

@@ -11,6 +11,7 @@ pub mod Stops
 pub mod Answers
 pub mod Judged
 pub mod Solved
+pub mod Written
 pub mod Allowed
 pub mod Laws
 pub mod Complete

@@ -4,12 +4,12 @@ use Rattle.cpog_base.specs.declared.limits.Counted.TheVariants as counted
 use Rattle.cpog_base.specs.declared.limits.TheConstants.{VARIABLE_LIMIT}
 use Rattle.cpog_base.specs.declared.status.Status.{Status}
 use Rattle.cpog_base.specs.declared.status.Status.TheVariants as status
-use Rattle.clause_arena.specs.Clauses.{Lit, Clause, Satisfies, by_place}
+use Rattle.clause_arena.specs.Clauses.{Lit, Clause, Satisfies, HaveNoSolution, by_place}
 use Rattle.proof_check.specs.Following.{Refutes}
 use Rattle.proof_check.specs.Lines.{Line}
 use Rattle.proof_check.specs.Progress.{IsProgressLog, StaysBelow, Spends}
 use Rattle.dimacs_text.specs.Formulas.{SpellsFormula}
-use Rattle.dimacs_text.specs.Logs.{ended, lit_word}
+use Rattle.dimacs_text.specs.Logs.{ended, lit_word, SpellsLog}
 use Rattle.dimacs_text.specs.Texts.{IsFormulaText}
 use Rattle.dimacs_text.specs.Writing.{log_lines}
 use Rattle.line_text.specs.Lines.{text_of}
@@ -54,16 +54,21 @@ pub record IsSatAnswer (variables : ℕ) (clauses : List Clause) (output : List 
   pub satisfies : Satisfies (by_place values) clauses
   pub output_is : output ≡ values_text values
 
--- a log that refutes it, and spends the budget with its last line at most
+-- a log that refutes it, so that no assignment satisfies it, and spends the budget with its last line at most; the
+-- printed lines spell this log, behind a formula of so many clauses
 pub record IsUnsatAnswer (budget variables : ℕ) (clauses : List Clause) (output : List ℕ) : Type 0 where
   pub log : List Line
+  pub spells : SpellsLog variables (length clauses) (log_lines log) log
   pub refutes : Refutes variables clauses log
+  pub unsatisfiable : HaveNoSolution clauses
   pub below : StaysBelow budget log
   pub output_is : output ≡ log_text (codes "s UNSATISFIABLE") log
 
--- a progress log that spends the budget, which isn't great for so few variables
+-- a progress log that spends the budget, which isn't great for so few variables; the printed lines spell this log,
+-- behind a formula of so many clauses
 pub record IsUnknownAnswer (budget variables : ℕ) (clauses : List Clause) (output : List ℕ) : Type 0 where
   pub log : List Line
+  pub spells : SpellsLog variables (length clauses) (log_lines log) log
   pub progress : IsProgressLog variables clauses log
   pub spends : Spends budget log
   pub small : budget ≤ 3 ^ variables * (2 * variables + 1)

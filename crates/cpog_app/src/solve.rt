@@ -9,6 +9,7 @@ ghost use Rattle.text_rows.specs.Lines.{free_lines};
 ghost use Rattle.cpog_app.specs.Solved as solved;
 ghost use Rattle.cpog_app.specs.Solved.{true_literals, values_text, IsFormulaRefusal, IsSolveAnswer};
 ghost use Rattle.cpog_app.specs.Stops.{IsStop};
+ghost use Rattle.cpog_app.specs.Written.{IsWritten, IsFindWritten};
 
 use crate::refusal::Refusal;
 use crate::stop::{Answer, Stop, refuse};
@@ -75,7 +76,8 @@ fn values_text(alloc: Global, values: &[bool]) -> Result<Vec<u8>, Memory>
 
 /// A line, and the text of a log behind it.
 fn log_text(alloc: Global, line: &str, log: &Log) -> Result<Vec<u8>, Memory>
-    ensures { IfOk result (λ text. text.items ≡ solved.log_text line.now log.now.lines) }
+    ensures text { IfOk result (λ text. text.items ≡ solved.log_text line.now log.now.lines) }
+    ensures written { OnOk result (IsWritten log.now.first log.now.lines) }
 {
     let log = write_log(alloc, log)?;
     let mut text = format!(in alloc; "{line}\n")?.into_bytes();
@@ -85,7 +87,8 @@ fn log_text(alloc: Global, line: &str, log: &Log) -> Result<Vec<u8>, Memory>
 
 /// The text of what is found.
 fn outcome_text(alloc: Global, outcome: &Outcome) -> Result<Vec<u8>, Memory>
-    ensures { IfOk result (λ text. text.items ≡ solved.outcome_text outcome.now) }
+    ensures text { IfOk result (λ text. text.items ≡ solved.outcome_text outcome.now) }
+    ensures written { OnOk result (IsFindWritten outcome.now) }
 {
     match outcome {
         Outcome::Sat(values) => values_text(alloc, values.as_slice()),

@@ -118,6 +118,18 @@ fit_push (x ∷ lines) l h f = (h.0, fit_push lines l h.1 f)
 pub fit_more : (lines : List Line) (i : ℕ) (l : Line) → i < length lines → l ≡ line_at lines i → AllByRecursion LineFits (take i lines) → LineFits l → AllByRecursion LineFits (take (i + 1) lines)
 fit_more lines i l lt at h f = subst (AllByRecursion LineFits) (sym (one_more lines i l lt at)) (fit_push (take i lines) l h f)
 
+within_push : (v : ℕ) (lines : List Line) (l : Line) → LinesWithin v lines → line_within v l → LinesWithin v (lines ++ l ∷ [])
+within_push v [] l h f = (f, tt)
+within_push v (x ∷ lines) l h f = (h.0, within_push v lines l h.1 f)
+
+pub within_more : (lines : List Line) (i : ℕ) (l : Line) → i < length lines → l ≡ line_at lines i → LinesWithin 2147483647 (take i lines) → line_within 2147483647 l → LinesWithin 2147483647 (take (i + 1) lines)
+within_more lines i l lt at h f = subst (LinesWithin 2147483647) (sym (one_more lines i l lt at)) (within_push 2147483647 (take i lines) l h f)
+
+-- behind the last line the log is written
+pub whole_written : (lines : List Line) (i : ℕ) (start text : List ℕ) → take i lines ≡ lines → start ≡ [] → text ≡ start ++ text_of (written_lines 1 (take i lines)) → text ≡ text_of (log_lines lines)
+whole_written lines i start text all none e =
+    e ∙ (ap (λ (t : List ℕ). t ++ text_of (written_lines 1 (take i lines))) none ∙ ap (λ (ls : List Line). text_of (written_lines 1 ls)) all)
+
 -- ---- the words are words
 
 signed_is_word : (b : Bool) (n : ℕ) → n < 10000000000 → IsWord (signed_word b n)
@@ -227,6 +239,10 @@ log_unbroken : (v w : ℕ) → v < 10000000000 → w < 4294967296 → (lines : L
 log_unbroken v w small lw [] f h = tt
 log_unbroken v w small lw (Line.Add id lits hints ∷ lines) f h = (spaced_unbroken (written_words w (Line.Add id lits hints)) (line_words v w small lw (Line.Add id lits hints) f.0 h.0), log_unbroken v id small f.0.0 lines f.1 h.1)
 log_unbroken v w small lw (Line.Del ids ∷ lines) f h = (spaced_unbroken (written_words w (Line.Del ids)) (line_words v w small lw (Line.Del ids) f.0 h.0), log_unbroken v w small lw lines f.1 h.1)
+
+-- the lines of what is written are those written
+pub text_lines : (text : List ℕ) (lines : List Line) → text ≡ text_of (log_lines lines) → AllByRecursion LineFits lines → LinesWithin 2147483647 lines → free_lines text ≡ log_lines lines
+text_lines text lines e f h = ap free_lines e ∙ lines_read (log_lines lines) (log_unbroken 2147483647 1 (omega arith) (omega arith) lines f h)
 
 -- what is written of a log is read as it
 pub text_spelled : (v first : ℕ) (text : List ℕ) (lines : List Line) → text ≡ text_of (log_lines lines) → v < 10000000000 → Rise first lines → LinesPositive lines → AllByRecursion LineFits lines → LinesWithin v lines → SpellsLog v first (free_lines text) lines

@@ -6,9 +6,9 @@ ghost use Rattle.line_text.specs.Lines.{text_of};
 ghost use Rattle.text_rows.specs.Lines.{free_lines, IsUnbroken};
 ghost use Rattle.text_rows.specs.Words.{spaced};
 ghost use Rattle.proof_check.specs.Refs.{line_of_ref};
-ghost use Rattle.dimacs_text.specs.Logs.{lit_word, id_after, SpellsLog};
+ghost use Rattle.dimacs_text.specs.Logs.{lit_word, id_after, IsLitWithin, LitsWithin, SpellsLog};
 ghost use Rattle.dimacs_text.specs.Formulas.{clause_words, SpellsFormula};
-ghost use Rattle.dimacs_text.specs.Writing.{blanked, formula_lines, written_words, log_lines, LineFits, LinesWithin};
+ghost use Rattle.dimacs_text.specs.Writing.{blanked, formula_lines, written_words, log_lines, LineFits, line_within, LinesWithin};
 
 use clause_arena::{ClauseArena, Cnf, Lit};
 use cpog_base::Memory;
@@ -17,7 +17,8 @@ use std::alloc::{AllocError, Global};
 use std::fmt::Write;
 
 fn put_lit(out: &mut String, lit: Lit) -> Result<(), AllocError>
-    ensures { OnOk result (string_bytes out.new ≡ string_bytes out.old ++ (lit_word lit ++ 32 ∷ [])) }
+    ensures text { OnOk result (string_bytes out.new ≡ string_bytes out.old ++ (lit_word lit ++ 32 ∷ [])) }
+    ensures within { IsLitWithin 2147483647 lit }
 {
     if lit.is_negated() {
         write!(out, "-{} ", lit.var())
@@ -28,7 +29,8 @@ fn put_lit(out: &mut String, lit: Lit) -> Result<(), AllocError>
 
 /// Writes each literal with a blank behind it.
 fn put_lits(out: &mut String, lits: &[Lit]) -> Result<(), AllocError>
-    ensures { OnOk result (string_bytes out.new ≡ string_bytes out.old ++ blanked (map lit_word lits.now)) }
+    ensures text { OnOk result (string_bytes out.new ≡ string_bytes out.old ++ blanked (map lit_word lits.now)) }
+    ensures within { OnOk result (LitsWithin 2147483647 lits.now) }
 {
     'lits: for i in 0..lits.len() {
         put_lit(out, lits[i])?;
@@ -93,6 +95,7 @@ fn put_line(out: &mut String, last: u32, line: LineRef<'_>) -> Result<u32, Alloc
     ensures text { OnOk result (string_bytes out.new ≡ string_bytes out.old ++ (spaced (written_words last (line_of_ref line.entry)) ++ 10 ∷ [])) }
     ensures last { IfOk result (λ next. next ≡ id_after last (line_of_ref line.entry)) }
     ensures fits { OnOk result (LineFits (line_of_ref line.entry)) }
+    ensures within { OnOk result (line_within 2147483647 (line_of_ref line.entry)) }
 {
     match line {
         LineRef::Add { id, lits, hints } => {
@@ -120,6 +123,8 @@ fn put_line(out: &mut String, last: u32, line: LineRef<'_>) -> Result<u32, Alloc
 /// `Memory` where none is left.
 pub fn write_log(alloc: Global, log: &Log) -> Result<Vec<u8>, Memory>
     ensures text { IfOk result (λ text. text.items ≡ text_of (log_lines log.now.lines)) }
+    ensures lines { IfOk result (λ text. free_lines text.items ≡ log_lines log.now.lines) }
+    ensures within { OnOk result (LinesWithin 2147483647 log.now.lines) }
     ensures spells { IfOk result (λ text. (variables : ℕ) → variables < 10000000000 → LinesWithin variables log.now.lines → SpellsLog variables log.now.first (free_lines text.items) log.now.lines) }
 {
     let mut out = String::new(alloc);

@@ -12,6 +12,6 @@ returns-clause-ok c =
         clauses = f.clauses.clauses;
         spells = c.in_ok-formula.ensures.spells;
         few = c.in_ok-formula.ensures.few;
-        found = outcome_found c.args.budget f.variables f.clauses.clauses c.in_ok-outcome.outcome c.in_ok-output.output.items c.in_ok-outcome.ensures c.in_ok-output.ensures;
+        found = outcome_found c.args.budget f.variables f.clauses.clauses c.in_ok-outcome.outcome c.in_ok-output.output.items c.in_ok-formula.ensures.few c.in_ok-outcome.ensures c.in_ok-output.ensures.text c.in_ok-output.ensures.written;
       },
     )
