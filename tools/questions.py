@@ -1,7 +1,8 @@
 """Tells from reports what the formulas of `cnf` ask, and makes these formulas as docs/FORMATS.md has them.
 
-It is a module of tools/templates, and shares nothing with the crates: scenarios are told from the lines has and arcs of
-a report, and their columns, the classes of these, the variables and the clauses by what the document says of them.
+It is a module of tools/templates and tools/reports, and shares nothing with the crates: scenarios are told from the lines
+has and arcs of a report, and their columns, the classes of these, the variables and the clauses by what the document
+says of them.
 """
 import itertools
 import math
@@ -172,15 +173,21 @@ Variable = tuple[str | int, ...]
 
 @dataclass(frozen=True)
 class Template:
-    """A template of so many scenarios, bits, gates and classes."""
+    """A template of so many scenarios, bits, gates and classes, with its number and the given bits of the codes.
+
+    A pattern has a 0, a 1 or a dash for each bit of a code. Without patterns no bit is given.
+    """
 
     scenarios: int
     bits: int
     gates: int
     classes: int
+    kind: int = 2
+    patterns: tuple[str, ...] = ()
 
     def comment(self) -> str:
-        return f"cpog template 2 scenarios {self.scenarios} bits {self.bits} gates {self.gates} classes {self.classes}"
+        front = f"cpog template {self.kind} scenarios {self.scenarios} bits {self.bits}"
+        return f"{front} gates {self.gates} classes {self.classes}"
 
     def signals(self) -> range:
         """The inputs and then the gates."""
@@ -246,13 +253,24 @@ class Template:
                     value = self.value(n, s) if entry else -self.value(n, s)
                     yield from ([-o, value, p], [-o, -value, -p])
 
-    def zero_clauses(self) -> Iterator[Clause]:
-        """The first code is 0."""
-        return ([-self.number["x", 0, i]] for i in range(self.bits))
+    def given_bits(self) -> list[tuple[int, int, bool]]:
+        """The bits that the third template gives: the scenario, the bit and its value."""
+        places = ((s, i, bit) for s, pattern in enumerate(self.patterns) for i, bit in enumerate(pattern))
+        return [(s, i, bit == "1") for s, i, bit in places if bit != "-"] if self.kind == 3 else []
+
+    def zero_bits(self) -> list[int]:
+        """The bits of the first code that are 0: none of the first template, and those that no pattern gives."""
+        given = {i for _, i, _ in self.given_bits()}
+        return [i for i in range(self.bits) if i not in given] if self.kind > 1 else []
+
+    def further_clauses(self) -> Iterator[Clause]:
+        """The given bits, and the zeros of the first code."""
+        yield from ([self.number["x", s, i] if bit else -self.number["x", s, i]] for s, i, bit in self.given_bits())
+        yield from ([-self.number["x", 0, i]] for i in self.zero_bits())
 
     def clauses(self, classes: list[Column]) -> Iterator[Clause]:
         """All clauses, in their order."""
-        families = (self.distinct_clauses(), self.gate_clauses(), self.class_clauses(classes), self.zero_clauses())
+        families = (self.distinct_clauses(), self.gate_clauses(), self.class_clauses(classes), self.further_clauses())
         return itertools.chain.from_iterable(families)
 
     # ---- how many there are
@@ -268,7 +286,17 @@ class Template:
         """How many clauses the families have, where the columns of the classes ask for so many bits."""
         pairs, places = math.comb(self.scenarios, 2), self.bits + self.gates
         gates = self.gates + 7 * self.scenarios * self.selections()
-        return pairs * (2 * self.bits + 1) + gates + self.classes + 2 * places * entries + self.bits
+        return pairs * (2 * self.bits + 1) + gates + self.classes + 2 * places * entries + self.further_count()
+
+    def literal_count(self, entries: int) -> int:
+        """How many literals the clauses have together."""
+        pairs, places = math.comb(self.scenarios, 2), self.bits + self.gates
+        gates = (34 * self.scenarios + 1) * self.selections()
+        return 7 * self.bits * pairs + gates + self.classes * places + 6 * places * entries + self.further_count()
+
+    def further_count(self) -> int:
+        """How many clauses of one literal stand behind the others."""
+        return len(self.given_bits()) + len(self.zero_bits())
 
     def selections(self) -> int:
         """How many pairs all gates may read."""
