@@ -7,6 +7,8 @@ Each text is made of its seed alone, so that a failure can be seen again.
   are in order. It has a graph or a scenario.
 - controller N M: N scenarios over M operations, none cyclic. Each is drawn on its own, so that any two differ but by
   chance. Most pairs of operations have a condition of their own.
+- instructions N: N different instructions of a small processor. Each is fetched and decoded, and then does a few of the
+  same steps, stage after stage.
 - full: a megabyte of one graph and a scenario, in all of the notation and with names of ordinary length.
 """
 import random
@@ -142,6 +144,32 @@ def controller(scenarios: int, operations: int, seed: int) -> str:
     return "".join(line + "\n" for line in lines)
 
 
+# What an instruction may do behind its decoding, stage by stage.
+STAGES = [
+    ["read_first", "read_second", "extend"],
+    ["add", "subtract", "shift", "mask"],
+    ["read_memory", "write_memory"],
+    ["write_register", "set_flags", "set_counter"],
+]
+
+
+def instruction(draw: random.Random) -> str:
+    """The graph of an instruction: some of each stage, side by side, behind those of the stage before."""
+    chosen = [draw.sample(stage, draw.choice((0, 1, 1, 2))) for stage in STAGES]
+    groups = [sorted(steps) for steps in chosen if steps]
+    stages = ["(" + " + ".join(steps) + ")" if len(steps) > 1 else steps[0] for steps in groups]
+    return " -> ".join(["fetch", "decode", *stages])
+
+
+def instructions(scenarios: int, seed: int) -> str:
+    """So many instructions of a small processor, any two different."""
+    draw = random.Random(f"instructions {scenarios} {seed}")
+    graphs: dict[str, None] = {}
+    while len(graphs) < scenarios:
+        graphs[instruction(draw)] = None
+    return "".join(f"scenario i{number} = {graph}\n" for number, graph in enumerate(graphs))
+
+
 def main() -> int:
     match sys.argv[1:]:
         case ["small", seed]:
@@ -150,8 +178,10 @@ def main() -> int:
             print(full(int(seed)), end="")
         case ["controller", scenarios, operations, seed]:
             print(controller(int(scenarios), int(operations), int(seed)), end="")
+        case ["instructions", scenarios, seed]:
+            print(instructions(int(scenarios), int(seed)), end="")
         case _:
-            print("usage: tools/texts.py small SEED | controller N M SEED | full SEED", file=sys.stderr)
+            print("usage: tools/texts.py small SEED | controller N M SEED | instructions N SEED | full SEED", file=sys.stderr)
             return 2
     return 0
 
