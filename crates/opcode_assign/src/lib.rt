@@ -5,10 +5,14 @@
 //! scenarios, that it is exactly the one that is defined, that its gates are few, and when there is none.
 #![tactic(auto)]
 
+mod attempt;
 mod bits;
+mod counting;
 mod first;
 mod laws;
 mod minimum;
+mod raising;
+mod written;
 
 pub use bits::default_bits;
 pub use first::{AssignFault, first_assign};
