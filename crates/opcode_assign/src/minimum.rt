@@ -17,10 +17,11 @@ ghost use Rattle.opcode_assign.specs.Answers.{IsAnswer};
 ghost use Rattle.opcode_assign.specs.Searches.{CanBeEncoded, IsEncodedBy};
 
 use crate::counting::{Bound, counted_bound};
-use crate::first::AssignFault;
 use crate::raising::{End, Raised, raise};
 use cnf_build::{Decoded, Evidence, OpenPart};
-use cpog_base::{BIT_LIMIT, BUDGET_LIMIT, Memory, OPERATION_LIMIT, Pattern, SCENARIO_LIMIT};
+use cpog_base::{
+    BIT_LIMIT, BUDGET_LIMIT, Memory, OPERATION_LIMIT, Pattern, SCENARIO_LIMIT, ScenId,
+};
 use cpog_merge::{ClassList, classes, graph_by_class, merge};
 use gate_core::{CodesFault, Encoding, FirstEncoding, first_encode, least_codes};
 use order_reduce::CoveredOrder;
@@ -34,6 +35,17 @@ pub struct Answer {
     pub lo: u32,
     pub evidence: Evidence,
     pub open_part: OpenPart,
+}
+
+/// Why there is no assignment.
+#[derive(Clone, Copy, Debug, PartialEq, Eq)]
+pub enum AssignFault {
+    /// There are more scenarios than words of so many bits.
+    TooFewBits,
+    /// The least scenario for which those up to it have no distinct words with the given bits.
+    Clash(ScenId),
+    /// No memory was left.
+    Memory,
 }
 
 /// Codes, gates and references of the first encoding of classes on these codes.
@@ -114,8 +126,8 @@ fn search(
 
 /// An encoding of 1 to 64 scenarios of one count of operations, over codes of so many bits that keep the given ones, and
 /// a lower bound on the gates of every such encoding. The bound begins with the count of incompatible columns. While it
-/// is below the gates of the encoding, which is at first that of `first_assign`, the template with so many gates as the
-/// bound says is tried with a budget of numbers in the log: a refutation raises the bound, and an assignment is an
+/// is below the gates of the encoding, which is at first the one that needs no search, the template with so many gates as
+/// the bound says is tried with a budget of numbers in the log: a refutation raises the bound, and an assignment is an
 /// encoding that attains it. What isn't decided within the budget, or is too large to be tried, is left open.
 ///
 /// # Errors

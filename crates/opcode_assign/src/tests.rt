@@ -80,6 +80,33 @@ fn refutes(evidence: &Evidence, kind: Template, count: u32) -> bool {
     }
 }
 
+/// A pattern that gives a 1 at both of two bits.
+fn both_ones() -> Pattern
+    ensures { length result ≡ 2 }
+{
+    Pattern::new(2, 3, 3)
+}
+
+/// How many places are counted.
+fn counted(evidence: &Evidence) -> usize {
+    match evidence {
+        Evidence::Count(places) => places.len(),
+        _ => 0,
+    }
+}
+
+/// Whether the budget is spent on this template with so many gates.
+fn is_left_open(open_part: &OpenPart, kind: Template, count: u32) -> bool {
+    match open_part {
+        OpenPart::Log {
+            template,
+            gates,
+            log: _,
+        } => *template == kind && *gates == count,
+        _ => false,
+    }
+}
+
 /// The operations are there as 101, 011, 100 and 111 in three scenarios. With codes 0, 3 and 2 each condition is a bit of
 /// the code, so an assignment without gates is found.
 #[test]
@@ -112,10 +139,7 @@ fn three_classes_need_a_gate(rt: HostRuntime) {
     assert_eq!(rt; answer.lo, 1);
     assert_eq!(rt; answer.encoding.codes(), [0, 1, 2].as_slice());
     assert_eq!(rt; answer.encoding.gates().len(), 1);
-    match answer.evidence {
-        Evidence::Count(places) => assert_eq!(rt; places.len(), 3),
-        _ => assert!(rt; false),
-    }
+    assert_eq!(rt; counted(&answer.evidence), 3);
     assert!(rt; matches!(answer.open_part, OpenPart::Closed));
 }
 
@@ -137,7 +161,7 @@ fn four_classes_need_four_gates(rt: HostRuntime) {
 #[test]
 fn a_given_code_is_kept(rt: HostRuntime) {
     let free = Pattern::free(2);
-    let given = [Pattern::new(2, 3, 3), free, free, free];
+    let given = [both_ones(), free, free, free];
     let answer = searched(rt.alloc(), 4, &given, DEFAULT_BUDGET).expect(&rt, "there is memory");
     assert_eq!(rt; answer.lo, 4);
     assert_eq!(rt; answer.encoding.codes(), [3, 0, 1, 2].as_slice());
@@ -154,15 +178,6 @@ fn a_spent_budget_leaves_the_rest_open(rt: HostRuntime) {
     let answer = searched(rt.alloc(), 4, &given, 1).expect(&rt, "there is memory");
     assert_eq!(rt; answer.lo, 2);
     assert_eq!(rt; answer.encoding.gates().len(), 4);
-    match answer.open_part {
-        OpenPart::Log {
-            template,
-            gates,
-            log: _,
-        } => {
-            assert_eq!(rt; template, Template::Second);
-            assert_eq!(rt; gates, 2);
-        }
-        _ => assert!(rt; false),
-    }
+    assert_eq!(rt; counted(&answer.evidence), 4);
+    assert!(rt; is_left_open(&answer.open_part, Template::Second, 2));
 }
