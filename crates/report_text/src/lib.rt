@@ -16,6 +16,8 @@ mod laws;
 mod parts;
 mod report;
 mod signals;
+#[cfg(test)]
+mod tests;
 mod version;
 mod writing;
 

@@ -103,7 +103,7 @@ fn scenario_name(report: &Report, s: usize) -> &str
     names.get(s as u32)
 }
 
-fn put_code(
+pub(crate) fn put_code(
     out: &mut String,
     name: &str,
     bits: u8,
@@ -159,7 +159,7 @@ fn put_covers(out: &mut String, names: &Names, scenario: &Scenario) -> Result<()
     Ok(())
 }
 
-fn put_gates(out: &mut String, bits: u8, gates: &[Gate]) -> Result<(), AllocError>
+pub(crate) fn put_gates(out: &mut String, bits: u8, gates: &[Gate]) -> Result<(), AllocError>
     ensures { OnOk result (Writes out.old out.new (text_of (gates_row (length gates.now) ∷ gate_lines bits gates.now))) }
 {
     let count = gates.len();
@@ -202,7 +202,12 @@ fn put_ops(
     Ok(())
 }
 
-fn put_op(out: &mut String, bits: u8, name: &str, condition: Ref) -> Result<(), AllocError>
+pub(crate) fn put_op(
+    out: &mut String,
+    bits: u8,
+    name: &str,
+    condition: Ref,
+) -> Result<(), AllocError>
     ensures { OnOk result (Writes out.old out.new (text_of (op_row bits name.now condition ∷ []))) }
 {
     write!(out, "op {name} ")?;
@@ -250,7 +255,7 @@ fn put_arcs_from(
     Ok(())
 }
 
-fn put_arc(
+pub(crate) fn put_arc(
     out: &mut String,
     bits: u8,
     first: &str,
