@@ -5,6 +5,7 @@ use Rattle.std.specs.List.{AllByRecursion, flat_map}
 use Rattle.std.specs.Fmt.{decimal}
 use Rattle.std.proofs.lemmas.Bool.{cases_eq}
 use Rattle.std.proofs.lemmas.List.{append_cancel_left, ext_get_or}
+use Rattle.std.proofs.lemmas.List.Concat.{flat_map-append}
 use Rattle.cpog_base.specs.Names.{AreDistinct}
 use Rattle.cpog_defs.specs.declared.types.Gate.{Gate}
 use Rattle.cpog_defs.specs.declared.types.Ref.{Ref}
@@ -17,11 +18,8 @@ use Rattle.gate_core.proofs.GateLemmas.{gate_by_parts}
 use Rattle.line_text.specs.Lines.{text_of}
 use Rattle.line_text.specs.Words.{continues_name}
 use Rattle.line_text.proofs.TellingLemmas.{AllPass, word_told, heads, tails, number_told, until_told}
-use Rattle.report_text.specs.declared.bound.Bound.{Bound}
-use Rattle.report_text.specs.declared.bound.Bound.TheVariants.{Minimum, Unknown}
-use Rattle.report_text.specs.Report.{IsBound}
 use Rattle.netlist_verilog.specs.Wires.{name_of, signal_text}
-use Rattle.report_text.specs.Rows.{digits_of, ref_text, gate_row, op_row, arc_row, line_unless_zero, arc_lines_from, arc_lines, minimum_row, end_lines}
+use Rattle.report_text.specs.Rows.{digits_of, ref_text, gate_row, op_row, arc_row, line_unless_zero, arc_lines_from, arc_lines}
 use Rattle.report_text.proofs.BelowLemmas.{flat_below, text_below, same_below, In, in_below, below_in}
 use Rattle.netlist_verilog.proofs.FeedLemmas.{name_passes}
 use Rattle.netlist_verilog.proofs.WordLemmas.{signal_told, name_is}
@@ -30,6 +28,13 @@ use Rattle.report_text.proofs.WordLemmas.{digits_told, ref_told}
 -- the first line of more, before other text
 pub line_first : (row : List ℕ) (ls : List (List ℕ)) (x : List ℕ) → text_of (row ∷ ls) ++ x ≡ row ++ 10 ∷ (text_of ls ++ x)
 line_first row ls x = append_assoc (row ++ 10 ∷ []) (text_of ls) x ∙ append_assoc row (10 ∷ []) (text_of ls ++ x)
+
+-- lines before lines, before other text
+pub lists_split : (ks ns : List (List ℕ)) (z : List ℕ) → text_of (ks ++ ns) ++ z ≡ text_of ks ++ (text_of ns ++ z)
+lists_split ks ns z = ap (λ t. t ++ z) (flat_map-append (λ l. l ++ 10 ∷ []) ks ns) ∙ append_assoc (text_of ks) (text_of ns) z
+
+pub lists_differ : (ls ls' ms ms' : List (List ℕ)) (x y : List ℕ) → text_of (ls ++ ms) ++ x ≡ text_of (ls' ++ ms') ++ y → text_of ls ++ (text_of ms ++ x) ≡ text_of ls' ++ (text_of ms' ++ y)
+lists_differ ls ls' ms ms' x y e = sym (lists_split ls ms x) ∙ e ∙ lists_split ls' ms' y
 
 pub lines_differ : (row row' : List ℕ) (ls ls' : List (List ℕ)) (x y : List ℕ) → text_of (row ∷ ls) ++ x ≡ text_of (row' ∷ ls') ++ y → row ++ 10 ∷ (text_of ls ++ x) ≡ row' ++ 10 ∷ (text_of ls' ++ y)
 lines_differ row row' ls ls' x y e = sym (line_first row ls x) ∙ e ∙ line_first row' ls' y
@@ -131,7 +136,7 @@ same_entry : (a b : Entry) → a.0 ≡ b.0 → a.1.0 ≡ b.1.0 → a.1.1 ≡ b.1
 same_entry a b p q r = λ i. (p i, (q i, r i))
 
 -- a name before a blank
-name_step : (names : List (List ℕ)) (u v : ℕ) (p q x y : List ℕ) → AreDistinct names → AllByRecursion (AllPass continues_name) names → u < length names → v < length names
+pub name_step : (names : List (List ℕ)) (u v : ℕ) (p q x y : List ℕ) → AreDistinct names → AllByRecursion (AllPass continues_name) names → u < length names → v < length names
     → (name_of names u ++ (32 ∷ p)) ++ x ≡ (name_of names v ++ (32 ∷ q)) ++ y → (u ≡ v) × (p ++ x ≡ q ++ y)
 name_step names u v p q x y distinct pass hu hv e =
     let r = word_told continues_name (name_of names u) (name_of names v) 32 (p ++ x) (q ++ y) (name_passes names u pass) (name_passes names v pass) refl
@@ -203,19 +208,3 @@ same_graph n signals g h gs hs ops e =
     let hu : u < n = omega (arith, gs.arcs) in
     ext_get_or (Const false) (get_or g.arcs u []) (get_or h.arcs u []) (gs.rows u hu ∙ sym (hs.rows u hu)) (λ v lt'. same_ref g h n u v e hu (omega (arith, gs.rows u hu)))) in
     λ i. record { ops = same_ops i; arcs = same_arcs i }
-
--- ---- the bound
-
-pub bound_told : (a b : Bound) (g h : ℕ) (ls ls' : List (List ℕ)) (x y : List ℕ) → IsBound g a → IsBound h b → text_of (end_lines a ++ ls) ++ x ≡ text_of (end_lines b ++ ls') ++ y → a ≡ b
-bound_told Unknown Unknown g h ls ls' x y ha hb e = refl
-bound_told Unknown (Minimum n) g h ls ls' x y ha hb e = absurd (omega (arith, heads 98 109 _ _ e))
-bound_told (Minimum m) Unknown g h ls ls' x y ha hb e = absurd (omega (arith, heads 109 98 _ _ e))
-bound_told (Minimum m) (Minimum n) g h ls ls' x y ha hb e =
-    let rest : List (List ℕ) → List (List ℕ) = λ (ks : List (List ℕ)). codes "evidence zero" ∷ codes "open none" ∷ ks in
-    let line = append_cancel_left (codes "minimum ") _ _ (lines_differ (minimum_row m) (minimum_row n) (rest ls) (rest ls') x y e) in
-    ap (λ k. Minimum k) ((number_told m n 10 _ _ (omega (arith, ha)) (omega (arith, hb)) refl line).0)
-
--- what follows the arcs
-pub bound_after : (b : Bound) (ls : List (List ℕ)) (x : List ℕ) → IsAfterArcs (text_of (end_lines b ++ ls) ++ x)
-bound_after Unknown ls x = (98, _, omega arith, refl)
-bound_after (Minimum m) ls x = (109, _, omega arith, refl)

@@ -8,6 +8,7 @@ use Rattle.std.specs.Cmp.{nat_cmp_total}
 use Rattle.std.proofs.lemmas.List.{append_cancel_left}
 use Rattle.std.proofs.lemmas.List.Elements.{recursion_from_All}
 use Rattle.cpog_base.specs.Names.{AreDistinct}
+use Rattle.cpog_defs.specs.declared.types.Bit3.{Bit3}
 use Rattle.cpog_defs.specs.declared.types.OpId.{OpId}
 use Rattle.cpog_defs.specs.Orders.{Set}
 use Rattle.cpog_defs.specs.Scenarios.{Scenario, IsScenario}
@@ -15,11 +16,12 @@ use Rattle.line_text.specs.Lines.{text_of}
 use Rattle.line_text.specs.Words.{continues_name}
 use Rattle.line_text.proofs.TellingLemmas.{AllPass, word_told, list_told, AllPass-append, or-true_left}
 use Rattle.netlist_verilog.specs.Wires.{name_of}
-use Rattle.report_text.specs.Rows.{members_below, arc_text, digits_of, scenario_row, has_row, arcs_row}
+use Rattle.report_text.specs.Rows.{members_below, arc_text, digits_of, given_text, scenario_row, has_row, arcs_row}
 use Rattle.report_text.proofs.BelowLemmas.{In, in_below, below_in}
+use Rattle.report_text.proofs.NetlistLemmas.{bool_same}
 use Rattle.netlist_verilog.proofs.FeedLemmas.{name_passes}
 use Rattle.netlist_verilog.proofs.WordLemmas.{name_is}
-use Rattle.report_text.proofs.WordLemmas.{digits_told}
+use Rattle.report_text.proofs.WordLemmas.{digits_before, given_front, given_told}
 use Rattle.report_text.proofs.RowLemmas.{lines_differ, AllBy-below}
 use Rattle.report_text.proofs.WritingLemmas.{ends_below}
 
@@ -44,11 +46,6 @@ member_has s n v h =
     let a = below_in v (λ w. if set.contains s w then w ∷ [] else []) n h in
     let b = one_cases (set.contains s a.0) a.0 v a.2 in
     ap (set.contains s) b.1 ∙ b.0
-
-pub bool_same : (a b : Bool) → (a ≡ true → b ≡ true) → (b ≡ true → a ≡ true) → a ≡ b
-bool_same true b f g = sym (f refl)
-bool_same false true f g = g refl
-bool_same false false f g = refl
 
 half : (s t : Set) (n q : ℕ) → ((v : ℕ) → set.contains s v ≡ true → v < n) → members_below s n ≡ members_below t n → set.contains s q ≡ true → set.contains t q ≡ true
 half s t n q below e h = member_has t n q (subst (λ (vs : List ℕ). In q vs) e (has_member s n q (below q h) h))
@@ -127,28 +124,35 @@ ends_are_below sc n is count = recursion_from_All (EndsBelow n) sc.arcs (λ k d 
 
 -- ---- a scenario
 
-abbrev pub block : ℕ → List (List ℕ) → List ℕ → ℕ → Scenario → List (List ℕ)
-block bits names name code sc = scenario_row bits name code ∷ has_row names sc ∷ arcs_row names sc ∷ []
+abbrev pub block : ℕ → List (List ℕ) → List ℕ → ℕ → List Bit3 → Scenario → List (List ℕ)
+block bits names name code pattern sc = scenario_row bits name code pattern ∷ has_row names sc ∷ arcs_row names sc ∷ []
 
 same_scenario : (s t : Scenario) → s.count ≡ t.count → s.ops ≡ t.ops → s.arcs ≡ t.arcs → s ≡ t
 same_scenario s t p q r = λ i. record { count = p i; ops = q i; arcs = r i }
 
-pub block_told : (bits : ℕ) (names : List (List ℕ)) (m n : List ℕ) (c d : ℕ) (s t : Scenario) (x y : List ℕ) → AreDistinct names → AllByRecursion (AllPass continues_name) names
-    → AllPass continues_name m → AllPass continues_name n → c < 2 ^ bits → d < 2 ^ bits → IsScenario s → IsScenario t → s.count ≡ length names → t.count ≡ length names
-    → text_of (block bits names m c s) ++ x ≡ text_of (block bits names n d t) ++ y → ((m ≡ n) × ((c ≡ d) × (s ≡ t))) × (x ≡ y)
-block_told bits names m n c d s t x y distinct pass hm hn hc hd is it sn tn e =
+pub block_told : (bits : ℕ) (names : List (List ℕ)) (m n : List ℕ) (c d : ℕ) (p q : List Bit3) (s t : Scenario) (x y : List ℕ) → AreDistinct names → AllByRecursion (AllPass continues_name) names
+    → AllPass continues_name m → AllPass continues_name n → c < 2 ^ bits → d < 2 ^ bits → length p ≡ length q → IsScenario s → IsScenario t → s.count ≡ length names → t.count ≡ length names
+    → text_of (block bits names m c p s) ++ x ≡ text_of (block bits names n d q t) ++ y → ((m ≡ n) × ((c ≡ d) × ((p ≡ q) × (s ≡ t)))) × (x ≡ y)
+block_told bits names m n c d p q s t x y distinct pass hm hn hc hd even is it sn tn e =
     let e1 =
     append_cancel_left (codes "scenario ") _ _
-    (lines_differ (scenario_row bits m c) (scenario_row bits n d) (has_row names s ∷ arcs_row names s ∷ [])
+    (lines_differ (scenario_row bits m c p) (scenario_row bits n d q) (has_row names s ∷ arcs_row names s ∷ [])
     (has_row names t ∷ arcs_row names t ∷ []) x y e) in
     let x1 = text_of (has_row names s ∷ arcs_row names s ∷ []) ++ x in
     let y1 = text_of (has_row names t ∷ arcs_row names t ∷ []) ++ y in
+    let first = digits_of bits c ++ given_text p in
+    let second = digits_of bits d ++ given_text q in
     let name =
-    word_told continues_name m n 32 (digits_of bits c ++ 10 ∷ x1) (digits_of bits d ++ 10 ∷ y1) hm hn refl
-    (sym (append_assoc m (32 ∷ digits_of bits c) (10 ∷ x1)) ∙ e1
-    ∙ append_assoc n (32 ∷ digits_of bits d) (10 ∷ y1)) in
-    let code = digits_told bits c d x1 y1 hc hd name.1 in
-    let e2 = append_cancel_left (codes "has") _ _ (lines_differ (has_row names s) (has_row names t) (arcs_row names s ∷ []) (arcs_row names t ∷ []) x y code.1) in
+    word_told continues_name m n 32 (first ++ 10 ∷ x1) (second ++ 10 ∷ y1) hm hn refl
+    (sym (append_assoc m (32 ∷ first) (10 ∷ x1)) ∙ e1 ∙ append_assoc n (32 ∷ second) (10 ∷ y1)) in
+    let pf = given_front p x1 in
+    let qf = given_front q y1 in
+    let code =
+    digits_before bits c d pf.0 qf.0 pf.1 qf.1 hc hd pf.2 qf.2
+    (ap (λ (z : List ℕ). digits_of bits c ++ z) (sym pf.3) ∙ sym (append_assoc (digits_of bits c) (given_text p) (10 ∷ x1)) ∙ name.1
+    ∙ append_assoc (digits_of bits d) (given_text q) (10 ∷ y1) ∙ ap (λ (z : List ℕ). digits_of bits d ++ z) qf.3) in
+    let given = given_told p q x1 y1 even (pf.3 ∙ code.1 ∙ sym qf.3) in
+    let e2 = append_cancel_left (codes "has") _ _ (lines_differ (has_row names s) (has_row names t) (arcs_row names s ∷ []) (arcs_row names t ∷ []) x y given.1) in
     let has' =
     list_told continues_name (map (name_of names) (members_below s.ops s.count))
     (map (name_of names) (members_below t.ops t.count)) (text_of (arcs_row names s ∷ []) ++ x)
@@ -160,4 +164,4 @@ block_told bits names m n c d s t x y distinct pass hm hn hc hd is it sn tn e =
     let e3 = append_cancel_left (codes "arcs") _ _ (lines_differ (arcs_row names s) (arcs_row names t) [] [] x y has'.1) in
     let arcs' = list_told arc_byte (map (arc_text names) s.arcs) (map (arc_text names) t.arcs) x y refl refl (arcs_pass names s.arcs pass) (arcs_pass names t.arcs pass) e3 in
     let arcs = arcs_are names s.arcs t.arcs distinct pass (ends_are_below s (length names) is sn) (ends_are_below t (length names) it tn) arcs'.0 in
-    ((name.0, (code.0, same_scenario s t (sn ∙ sym tn) ops arcs)), arcs'.1)
+    ((name.0, (code.0, (given.0, same_scenario s t (sn ∙ sym tn) ops arcs))), arcs'.1)

@@ -6,24 +6,29 @@ ghost use Rattle.cpog_defs.specs.Scenarios.{IsScenario};
 ghost use Rattle.line_text.specs.Lines.{text_of};
 ghost use Rattle.netlist_verilog.specs.Wires.{name_of};
 ghost use Rattle.netlist_verilog.specs.Writes.{Writes};
-ghost use Rattle.report_text.specs.Rows.{blank_names, scenario_row, has_row, arcs_row, scenario_lines, gates_row, gate_row, gate_lines, op_row, op_lines, arc_row, arc_lines_from, arc_lines, head_lines, end_lines, netlist_lines, report_lines, line_unless_zero};
+ghost use Rattle.report_text.specs.Report.{LogsFit};
+ghost use Rattle.report_text.specs.Rows.{blank_names, scenario_row, has_row, arcs_row, scenario_lines, gates_row, gate_row, gate_lines, op_row, op_lines, arc_row, arc_lines_from, arc_lines, head_lines, netlist_lines, report_lines, line_unless_zero};
 
+use crate::Report;
+use crate::given::put_given;
+use crate::known::{put_bound, put_evidence, put_open};
 use crate::signals::{put_digits, put_ref};
-use crate::{Bound, Report};
-use cpog_base::{BIT_LIMIT, Memory, Names, OpId, OpSet, Scenario};
+use cpog_base::{BIT_LIMIT, Memory, Names, OpId, OpSet, Pattern, Scenario};
 use cpog_defs::types::{Gate, Ref};
 use gate_core::ConditionalGraph;
 use netlist_verilog::{Module, SignalName, append_module};
 use std::alloc::{AllocError, Global};
 use std::fmt::Write;
 
-/// The text of a report, in the time of its length and of the pairs of its operations.
+/// The text of a report, in the time of its length and of the pairs of its operations. That the numbers of its logs are
+/// words of 32 bits is known once each is written.
 ///
 /// # Errors
 ///
 /// `Memory` where none is left.
 pub fn write_report(alloc: Global, report: &Report) -> Result<Vec<u8>, Memory>
-    ensures { IfOk result (λ text. text.items ≡ text_of (report_lines report.now)) }
+    ensures text { IfOk result (λ text. text.items ≡ text_of (report_lines report.now)) }
+    ensures fits { IfOk result (λ _. LogsFit report.now) }
 {
     let mut out = String::new(alloc);
     put_head(&mut out, report)?;
@@ -33,7 +38,9 @@ pub fn write_report(alloc: Global, report: &Report) -> Result<Vec<u8>, Memory>
     put_gates(&mut out, bits, encoding.gates().gates())?;
     put_ops(&mut out, bits, report.names(), encoding.graph())?;
     put_arcs(&mut out, bits, report.names(), encoding.graph())?;
-    put_end(&mut out, report.bound())?;
+    put_bound(&mut out, report.bound())?;
+    put_evidence(&mut out, report.names(), report.evidence())?;
+    put_open(&mut out, report.open_part())?;
     let text = append_netlist(out, report.design())?;
     Ok(text.into_bytes())
 }
@@ -43,7 +50,8 @@ fn put_head(out: &mut String, report: &Report) -> Result<(), AllocError>
 {
     write!(
         out,
-        "cpog report 1\nbits {}\nbudget {}\noperations",
+        "cpog report {}\nbits {}\nbudget {}\noperations",
+        report.version().number(),
         report.bits(),
         report.budget()
     )?;
@@ -78,7 +86,8 @@ fn put_scenario(out: &mut String, report: &Report, s: usize) -> Result<(), Alloc
     let bits = report.bits();
     let name = scenario_name(report, s);
     let scenario = &report.scenarios()[s];
-    put_code(out, name, bits, report.encoding().codes()[s])?;
+    let code = report.encoding().codes()[s];
+    put_code(out, name, bits, code, &report.given()[s])?;
     put_members(out, report.names(), scenario)?;
     put_covers(out, report.names(), scenario)
 }
@@ -94,12 +103,19 @@ fn scenario_name(report: &Report, s: usize) -> &str
     names.get(s as u32)
 }
 
-fn put_code(out: &mut String, name: &str, bits: u8, code: u8) -> Result<(), AllocError>
+pub(crate) fn put_code(
+    out: &mut String,
+    name: &str,
+    bits: u8,
+    code: u8,
+    given: &Pattern,
+) -> Result<(), AllocError>
     requires { bits ≤ BIT_LIMIT }
-    ensures { OnOk result (Writes out.old out.new (text_of (scenario_row bits name.now code ∷ []))) }
+    ensures { OnOk result (Writes out.old out.new (text_of (scenario_row bits name.now code given.now ∷ []))) }
 {
     write!(out, "scenario {name} ")?;
     put_digits(out, bits, code)?;
+    put_given(out, given)?;
     out.push_str("\n")?;
     Ok(())
 }
@@ -143,7 +159,7 @@ fn put_covers(out: &mut String, names: &Names, scenario: &Scenario) -> Result<()
     Ok(())
 }
 
-fn put_gates(out: &mut String, bits: u8, gates: &[Gate]) -> Result<(), AllocError>
+pub(crate) fn put_gates(out: &mut String, bits: u8, gates: &[Gate]) -> Result<(), AllocError>
     ensures { OnOk result (Writes out.old out.new (text_of (gates_row (length gates.now) ∷ gate_lines bits gates.now))) }
 {
     let count = gates.len();
@@ -186,7 +202,12 @@ fn put_ops(
     Ok(())
 }
 
-fn put_op(out: &mut String, bits: u8, name: &str, condition: Ref) -> Result<(), AllocError>
+pub(crate) fn put_op(
+    out: &mut String,
+    bits: u8,
+    name: &str,
+    condition: Ref,
+) -> Result<(), AllocError>
     ensures { OnOk result (Writes out.old out.new (text_of (op_row bits name.now condition ∷ []))) }
 {
     write!(out, "op {name} ")?;
@@ -234,7 +255,7 @@ fn put_arcs_from(
     Ok(())
 }
 
-fn put_arc(
+pub(crate) fn put_arc(
     out: &mut String,
     bits: u8,
     first: &str,
@@ -252,50 +273,10 @@ fn put_arc(
     Ok(())
 }
 
-fn put_end(out: &mut String, bound: Bound) -> Result<(), AllocError>
-    ensures { OnOk result (Writes out.old out.new (text_of (end_lines bound))) }
-{
-    match bound {
-        Bound::Minimum(count) => write!(out, "minimum {count}\nevidence zero\nopen none\n"),
-        Bound::Unknown => out.push_str("bound none\n"),
-    }
-}
-
 /// This text with the line `netlist` and the module behind it.
 fn append_netlist(mut text: String, design: &Module) -> Result<String, Memory>
     ensures { IfOk result (λ whole. Writes text whole (text_of (netlist_lines design.now))) }
 {
     text.push_str("netlist\n")?;
     append_module(text, design)
-}
-
-#[cfg(test)]
-mod tests {
-    use super::*;
-
-    #[test]
-    fn a_gate_is_printed_with_its_signals_and_values(rt: HostRuntime) {
-        // x0 & x1, and the exclusive or of x1 and that gate, over two bits.
-        let both = Gate {
-            j: 0,
-            k: 1,
-            table: 8,
-        };
-        let one = Gate {
-            j: 1,
-            k: 2,
-            table: 6,
-        };
-        let mut out = String::new(rt.alloc());
-        put_gates(&mut out, 2, &[both, one]).expect(&rt, "there is memory");
-        put_op(&mut out, 2, "a", Ref::Const(true)).expect(&rt, "there is memory");
-        let complement = Ref::Signal {
-            number: 3,
-            negated: true,
-        };
-        put_arc(&mut out, 2, "a", "b", complement).expect(&rt, "there is memory");
-        put_end(&mut out, Bound::Unknown).expect(&rt, "there is memory");
-        let want = "gates 2\ng0 x0 x1 0001\ng1 x1 g0 0110\nop a 1\narc a b !g1\nbound none\n";
-        assert_eq!(rt; out.as_str(), want);
-    }
 }
