@@ -15,12 +15,12 @@ use cpog_base::Memory;
 use sat_trail::Trail;
 use std::alloc::Global;
 
-/// For each variable its block, its activity, the value that it gets when it is decided, its place in the heap, and
-/// the conflict at which it was rewarded last; the heap; and how much a reward counts now. The lists by variable have
-/// a place 0 that isn't used.
+/// For each variable its activity, the value that it gets when it is decided, its place in the heap, and the conflict
+/// at which it was rewarded last; the heap; and how much a reward counts now. The lists by variable have a place 0 that
+/// isn't used; the blocks are those of the preferences.
 #[derive(Drop)]
-pub struct Decisions {
-    blocks: Vec<u32>,
+pub struct Decisions<'a> {
+    preferences: &'a Preferences,
     activities: Vec<f64>,
     phases: Vec<bool>,
     heap: Vec<u32>,
@@ -67,18 +67,18 @@ fn of_phase(var: u32, phase: bool) -> Lit
     Lit::from_var(var, !phase)
 }
 
-impl Decisions {
+impl<'a> Decisions<'a> {
     /// Every variable is in the heap.
     pub fn new(
         alloc: Global,
         variables: u32,
-        preferences: &Preferences,
-    ) -> Result<Decisions, Memory>
+        preferences: &'a Preferences,
+    ) -> Result<Decisions<'a>, Memory>
         requires { variables < 2 ^ 31 }
     {
         let count = variables as usize + 1;
         let mut order = Decisions {
-            blocks: vec![in alloc; u32::MAX; count]?,
+            preferences,
             activities: vec![in alloc; 0.0; count]?,
             phases: vec![in alloc; true; count]?,
             heap: Vec::with_capacity(alloc, count)?,
@@ -87,39 +87,38 @@ impl Decisions {
             conflicts: 1,
             step: 1.0,
         };
-        order.prefer(variables, preferences);
+        order.prefer(variables);
         for before in 0..variables {
             order.insert(before + 1);
         }
         Ok(order)
     }
 
-    /// Takes over the blocks and the first values.
-    fn prefer(&mut self, variables: u32, preferences: &Preferences) {
+    /// Takes over the first values.
+    fn prefer(&mut self, variables: u32) {
         for before in 0..variables as usize {
-            if let (Some(slot), Some(block)) = (
-                self.blocks.get_mut(before.wrapping_add(1)),
-                preferences.blocks.get(before),
-            ) {
-                *slot = *block;
-            }
             if let (Some(slot), Some(phase)) = (
                 self.phases.get_mut(before.wrapping_add(1)),
-                preferences.phases.get(before),
+                self.preferences.phases.get(before),
             ) {
                 *slot = *phase;
             }
         }
     }
 
+    /// The block of a variable.
+    fn block(&self, var: u32) -> u32 {
+        match self.preferences.blocks.get((var as usize).wrapping_sub(1)) {
+            Some(block) => *block,
+            None => u32::MAX,
+        }
+    }
+
     /// Whether a variable is decided before another.
     fn comes_before(&self, a: u32, b: u32) -> bool {
-        let (Some(first), Some(second)) = (self.blocks.get(a as usize), self.blocks.get(b as usize))
-        else {
-            return false;
-        };
-        if *first != *second {
-            return *first < *second;
+        let (first, second) = (self.block(a), self.block(b));
+        if first != second {
+            return first < second;
         }
         let (Some(x), Some(y)) = (
             self.activities.get(a as usize),
@@ -291,6 +290,13 @@ impl Decisions {
         self.step *= SHRINK;
     }
 
+    /// Rewards the variables of a clause.
+    fn bump_all(&mut self, clause: &[Lit]) {
+        for lit in clause {
+            self.bump(lit.var());
+        }
+    }
+
     /// The variables of the clauses that led to a conflict come earlier from now on.
     pub fn reward(&mut self, arena: &ClauseArena, hints: &[u32])
         requires { length arena.now.clauses < 2 ^ 32 }
@@ -298,9 +304,7 @@ impl Decisions {
         for hint in hints {
             let id = hint.wrapping_sub(1);
             if id < arena.len() {
-                for lit in arena.clause(id) {
-                    self.bump(lit.var());
-                }
+                self.bump_all(arena.clause(id));
             }
         }
         self.conflicts = self.conflicts.wrapping_add(1);

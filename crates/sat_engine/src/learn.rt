@@ -66,7 +66,7 @@ pub fn learn(
     known: &mut Known,
     trail: &mut Trail,
     work: &mut Workspace,
-    order: &mut Decisions,
+    order: &mut Decisions<'_>,
     conflict: u32,
 ) -> Result<(), Memory>
     requires searching { IsSearching known.old.arena.clauses trail.old }

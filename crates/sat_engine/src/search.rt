@@ -25,7 +25,7 @@ use sat_trail::Trail;
 use watch_lists::Propagation;
 
 /// Decides until a clause is false, or until every variable has a value.
-pub fn to_conflict(known: &mut Known, trail: &mut Trail, order: &mut Decisions) -> Option<u32>
+pub fn to_conflict(known: &mut Known, trail: &mut Trail, order: &mut Decisions<'_>) -> Option<u32>
     requires searching { IsSearching known.old.arena.clauses trail.old }
     requires listed { AreListed known.old.arena.clauses known.old.watches trail.old }
     requires fit { IsFit known.old.watches known.old.arena.clauses trail.old }
@@ -52,7 +52,7 @@ pub fn search(
     known: &mut Known,
     trail: &mut Trail,
     work: &mut Workspace,
-    order: &mut Decisions,
+    order: &mut Decisions<'_>,
     budget: u32,
 ) -> Result<Verdict, Memory>
     requires budget { budget ≤ 2 ^ 23 }

@@ -115,6 +115,11 @@ pub record IsRelinked (links links2 : List Link) (before m : ℕ) (c : Lit) : Ty
   pub watched : other_at links2 (sibling m) ≡ c
   pub kept : (k : ℕ) → k ≢ sibling m → other_at links2 k ≡ other_at links k
 
+-- the place of a literal of the clause, from one place up to another, that isn't false
+abbrev pub IsOpenBetween : Clause → List Lit → ℕ → ℕ → Option ℕ → Type 0
+IsOpenBetween c T start end None = (i : ℕ) → start ≤ i → i < end → In (opposite (lit_at c i)) T
+IsOpenBetween c T start end (Some i) = (start ≤ i) × (i < end) × (In (opposite (lit_at c i)) T → ⊥)
+
 -- the place of a literal of the clause, from 2 on, that isn't false
 abbrev pub IsReplacement : Clause → List Lit → Option ℕ → Type 0
 IsReplacement c T None = (i : ℕ) → 2 ≤ i → i < length c → In (opposite (lit_at c i)) T

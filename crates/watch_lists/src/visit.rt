@@ -7,7 +7,7 @@ ghost use Rattle.clause_arena.specs.Clauses as clauses;
 ghost use Rattle.sat_trail.specs.Trails.{true_lits, lit_at};
 ghost use Rattle.clause_arena.specs.Arenas.{clause_at};
 ghost use Rattle.clause_arena.specs.Lits.{code_of};
-ghost use Rattle.watch_lists.specs.Watched.{IsReplacement, IsRelinked, place_of, sibling, AreSameListed, ArePendingFrom, count_left, AreRearranged};
+ghost use Rattle.watch_lists.specs.Watched.{IsReplacement, IsOpenBetween, IsRelinked, place_of, sibling, AreSameListed, ArePendingFrom, count_left, AreRearranged};
 ghost use Rattle.watch_lists.specs.Steps.{AtNode, AtList, AreFit, IsStep, IsSameOrMore, IsExtended, IsVisit, IsRun};
 
 use crate::link::Link;
@@ -17,17 +17,55 @@ use crate::step::Step;
 use clause_arena::{ClauseArena, Lit};
 use sat_trail::Trail;
 
-/// The first literal from the third on that isn't false.
-pub fn replacement(clause: &[Lit], trail: &Trail) -> Option<usize>
-    requires { (l : clauses.Lit) → In l clause.now → l.var ≤ trail.now.variables }
-    ensures { IsReplacement clause.now (true_lits trail.now.entries) result }
+/// Multiplied by it, numbers in a row are scattered over all of their type (Knuth, The Art of Computer Programming,
+/// volume 3, 6.4).
+const SCATTER: u32 = 2654435769;
+
+/// Clauses with fewer literals behind the watched ones are gone through from the third on.
+const FEW: usize = 5;
+
+/// A place of a clause from 2 on, another one for each clause and for each length of the trail. From a fixed place,
+/// literals that stay false would be passed over again and again.
+fn first_place(len: usize, id: u32, passed: u32) -> usize
+    requires two { 2 ≤ len }
+    ensures low { 2 ≤ result }
+    ensures high { result ≤ len }
 {
-    for i in 2..clause.len() {
+    let others = len - 2;
+    if others < FEW {
+        return 2;
+    }
+    let turn = passed.wrapping_mul(SCATTER) ^ id.wrapping_mul(SCATTER);
+    let skipped = (turn as usize).wrapping_mul(others) >> 32;
+    if skipped < others { 2 + skipped } else { 2 }
+}
+
+/// The first literal from one place up to another that isn't false.
+#[inline(always)]
+fn first_open(clause: &[Lit], trail: &Trail, start: usize, end: usize) -> Option<usize>
+    requires within { (l : clauses.Lit) → In l clause.now → l.var ≤ trail.now.variables }
+    requires end { end ≤ length clause.now }
+    ensures { IsOpenBetween clause.now (true_lits trail.now.entries) start end result }
+{
+    for i in start..end {
         if !trail.is_false(clause[i]) {
             return Some(i);
         }
     }
     None
+}
+
+/// A literal from the third on that isn't false.
+pub fn replacement(clause: &[Lit], trail: &Trail, id: u32) -> Option<usize>
+    requires within { (l : clauses.Lit) → In l clause.now → l.var ≤ trail.now.variables }
+    requires two { 2 ≤ length clause.now }
+    ensures { IsReplacement clause.now (true_lits trail.now.entries) result }
+{
+    let start = first_place(clause.len(), id, trail.len());
+    match first_open(clause, trail, start, clause.len()) {
+        Some(place) => Some(place),
+        None => first_open(clause, trail, 2, start),
+    }
 }
 
 /// Exchanges a watched literal for this one, at another place of the clause.
@@ -86,7 +124,7 @@ pub fn step(
         return Step::Kept;
     }
     let id = (node - heads) / 2;
-    match replacement(arena.clause(id), trail) {
+    match replacement(arena.clause(id), trail, id) {
         Some(place) => {
             let watched = arena.clause(id)[place];
             move_watch(

@@ -31,8 +31,11 @@ overflow_sub-id c = (node_is _ _ _ _ _ _ _ c.requires.at).0
 pub clause-requires : goal.clause-requires
 clause-requires c = id_low _ _ _ _ _ _ _ c.requires.at
 
-pub replacement-requires : goal.replacement-requires
-replacement-requires c = λ l i. within_all _ _ _ _ _ _ _ c.requires.at l (subst (In l) c.clause.ensures i)
+pub replacement-requires-clause-within : goal.replacement-requires-clause-within
+replacement-requires-clause-within c = λ l i. within_all _ _ _ _ _ _ _ c.requires.at l (subst (In l) c.clause.ensures i)
+
+pub replacement-requires-clause-two : goal.replacement-requires-clause-two
+replacement-requires-clause-two c = rw c.clause.ensures (two _ _ _ _ _ _ _ c.requires.at)
 
 pub is_false-requires : goal.is_false-requires
 is_false-requires c =
