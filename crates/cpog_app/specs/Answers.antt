@@ -1,5 +1,5 @@
 -- What each command prints for a file: it is refused, or this is the answer of status 0.
-use Rattle.std.specs.Prelude.{◌≡◌, ◌⊎◌, List, ℕ}
+use Rattle.std.specs.Prelude.{◌≡◌, ◌⊎◌, List, ℕ, IsTrue}
 use Rattle.cpog_base.specs.declared.status.Status.{Status}
 use Rattle.cpog_base.specs.declared.status.Status.TheVariants as status
 use Rattle.line_text.specs.Lines.{text_of}
@@ -38,6 +38,10 @@ pub record IsReportAnswer (options : SynthOptions) (f : Contents) (output : List
   pub synthesis : IsSynthesis options f report
   pub output_is : output ≡ text_of (report_lines report)
   pub controller : PrintsController f.operations synthesis.sound.orders report.encoding.codes output
+
+-- the statuses at which a report is printed: 0, and 10 too where `--exact` stands
+abbrev pub IsReportStatus : SynthOptions → Status → Type 0
+IsReportStatus options s = (s ≡ status.Ok) ⊎ (IsTrue options.exact × (s ≡ status.Budget))
 
 -- the answers to `synth`: its scenarios are refused, or the report
 abbrev pub IsSynthAnswer : SynthOptions → Contents → Status → List ℕ → Type 0
