@@ -8,3 +8,4 @@ pub mod BoundLemmas
 mod FormulaLemmas
 mod DecodedLemmas
 mod WrittenLemmas
+pub mod EvidenceLemmas

@@ -9,6 +9,7 @@ ghost use Rattle.gate_template.specs.Counts.{defined, all_defined, open_bits};
 ghost use Rattle.cnf_build.specs.Sizes.{IsAsked};
 ghost use Rattle.gate_template.specs.Counts.{pairs};
 ghost use Rattle.gate_template.specs.Counts.{further_count};
+ghost use Rattle.cnf_build.specs.Evidence.{template_for};
 ghost use Rattle.cnf_build.specs.Totals.{AreFew, variable_total, clause_total, literal_total};
 
 use crate::given::{given_at, is_defined, is_given_by_some};
@@ -88,6 +89,19 @@ fn all_given_entries(patterns: &[Pattern]) -> u64
         count += given_entries(&patterns[s]);
     }
     count
+}
+
+/// The template that a search asks: the third where a bit is given, else the second, under which codes are free.
+pub fn template_for(given: &[Pattern]) -> Template
+    requires few { length given.now ≤ 64 }
+    requires entries { All (λ pattern. length pattern ≤ 8) given.now }
+    ensures { result ≡ template_for given.now }
+{
+    if all_given_entries(given) == 0 {
+        Template::Second
+    } else {
+        Template::Third
+    }
 }
 
 /// How many of the first bits no pattern gives.

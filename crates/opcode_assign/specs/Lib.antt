@@ -1,3 +1,4 @@
 pub mod Bits
 pub mod Assignments
 pub mod Laws
+pub mod Answers

@@ -8,10 +8,12 @@
 mod bits;
 mod first;
 mod laws;
+mod minimum;
 
 pub use bits::default_bits;
 pub use first::{AssignFault, first_assign};
 pub use laws::first_assignments_agree;
+pub use minimum::{Answer, assign};
 
 #[cfg(test)]
 mod tests;
