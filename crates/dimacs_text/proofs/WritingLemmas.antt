@@ -125,11 +125,6 @@ within_push v (x ∷ lines) l h f = (h.0, within_push v lines l h.1 f)
 pub within_more : (lines : List Line) (i : ℕ) (l : Line) → i < length lines → l ≡ line_at lines i → LinesWithin 2147483647 (take i lines) → line_within 2147483647 l → LinesWithin 2147483647 (take (i + 1) lines)
 within_more lines i l lt at h f = subst (LinesWithin 2147483647) (sym (one_more lines i l lt at)) (within_push 2147483647 (take i lines) l h f)
 
--- behind the last line the log is written
-pub whole_written : (lines : List Line) (i : ℕ) (start text : List ℕ) → take i lines ≡ lines → start ≡ [] → text ≡ start ++ text_of (written_lines 1 (take i lines)) → text ≡ text_of (log_lines lines)
-whole_written lines i start text all none e =
-    e ∙ (ap (λ (t : List ℕ). t ++ text_of (written_lines 1 (take i lines))) none ∙ ap (λ (ls : List Line). text_of (written_lines 1 ls)) all)
-
 -- ---- the words are words
 
 signed_is_word : (b : Bool) (n : ℕ) → n < 10000000000 → IsWord (signed_word b n)
@@ -215,7 +210,7 @@ are_ids : (is : List ℕ) → ArePositive is → AllByRecursion (λ n. n < 42949
 are_ids [] p f = tt
 are_ids (n ∷ is) p f = ((p.0, f.0), are_ids is p.1 f.1)
 
-line_words : (v w : ℕ) → v < 10000000000 → w < 4294967296 → (l : Line) → LineFits l → line_within v l → AllByRecursion IsWord (written_words w l)
+pub line_words : (v w : ℕ) → v < 10000000000 → w < 4294967296 → (l : Line) → LineFits l → line_within v l → AllByRecursion IsWord (written_words w l)
 line_words v w small lw (Line.Add id lits hints) f h = (number_is_word id (omega (arith, f.0)), both_words (ended (map lit_word lits)) (ended (map decimal hints)) (ended_words (map lit_word lits) (lits_words v small lits h)) (ended_words (map decimal hints) (ids_words hints f.1)))
 line_words v w small lw (Line.Del ids) f h = (number_is_word w (omega arith), ((omega arith, (omega arith, tt)), ended_words (map decimal ids) (ids_words ids f)))
 

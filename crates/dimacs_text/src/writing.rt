@@ -5,6 +5,7 @@ ghost use Rattle.std.specs.Fmt.{decimal};
 ghost use Rattle.line_text.specs.Lines.{text_of};
 ghost use Rattle.text_rows.specs.Lines.{free_lines, IsUnbroken};
 ghost use Rattle.text_rows.specs.Words.{spaced};
+ghost use Rattle.proof_check.specs.Records.{IsLog};
 ghost use Rattle.proof_check.specs.Refs.{line_of_ref};
 ghost use Rattle.dimacs_text.specs.Logs.{lit_word, id_after, IsLitWithin, LitsWithin, SpellsLog};
 ghost use Rattle.dimacs_text.specs.Formulas.{clause_words, SpellsFormula};
@@ -115,6 +116,25 @@ fn put_line(out: &mut String, last: u32, line: LineRef<'_>) -> Result<u32, Alloc
     }
 }
 
+/// Writes the lines of a log behind a text. A deletion has the id of the addition before it, or 1 where there is none.
+/// After `Memory` a part of them is written.
+///
+/// # Errors
+///
+/// `Memory` where none is left.
+pub fn append_log(out: &mut String, log: &Log) -> Result<(), Memory>
+    ensures text { OnOk result (string_bytes out.new ≡ string_bytes out.old ++ text_of (log_lines log.now.lines)) }
+    ensures fits { OnOk result (AllByRecursion LineFits log.now.lines) }
+    ensures within { OnOk result (LinesWithin 2147483647 log.now.lines) }
+    ensures log { IsLog log.now }
+{
+    let mut last: u32 = 1;
+    'lines: for i in 0..log.len() {
+        last = put_line(out, last, log.line(i))?;
+    }
+    Ok(())
+}
+
 /// The text of a log, a line for each of its lines. A deletion has the id of the addition before it, or 1 where there
 /// is none.
 ///
@@ -128,9 +148,6 @@ pub fn write_log(alloc: Global, log: &Log) -> Result<Vec<u8>, Memory>
     ensures spells { IfOk result (λ text. (variables : ℕ) → variables < 10000000000 → LinesWithin variables log.now.lines → SpellsLog variables log.now.first (free_lines text.items) log.now.lines) }
 {
     let mut out = String::new(alloc);
-    let mut last: u32 = 1;
-    'lines: for i in 0..log.len() {
-        last = put_line(&mut out, last, log.line(i))?;
-    }
+    append_log(&mut out, log)?;
     Ok(out.into_bytes())
 }

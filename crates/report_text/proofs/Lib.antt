@@ -1,9 +1,1 @@
-pub mod WritingLemmas
-pub mod BelowLemmas
-pub mod WordLemmas
-pub mod RowLemmas
-pub mod ScenarioLemmas
 pub mod NetlistLemmas
-pub mod LawLemmas
-pub mod FrontLemmas
-pub mod ModuleLemmas

@@ -1,12 +1,16 @@
 -- An encoding has one netlist.
-use Rattle.std.proofs.Common.{◌≡◌, ℕ, IsTrue, [], length, get_or, None, sym, ap, ◌∙◌, arith}
+use Rattle.std.proofs.Common.{◌≡◌, ℕ, Bool, true, false, IsTrue, [], length, get_or, None, refl, sym, ap, ◌∙◌, arith}
 use Rattle.std.specs.FinSet as set
 use Rattle.std.specs.FinSet.{nat_cmp-IsAntisymmetric}
 use Rattle.std.specs.Cmp.{nat_cmp_total}
 use Rattle.std.proofs.lemmas.List.{ext_get_or}
 use Rattle.cpog_defs.specs.Encodings.{Encoding}
 use Rattle.handshake_eqs.specs.Netlists.{Netlist, waits_of, IsNetlistOf}
-use Rattle.report_text.proofs.ScenarioLemmas.{bool_same}
+
+pub bool_same : (a b : Bool) → (a ≡ true → b ≡ true) → (b ≡ true → a ≡ true) → a ≡ b
+bool_same true b f g = sym (f refl)
+bool_same false true f g = g refl
+bool_same false false f g = refl
 
 same_wires : (e : Encoding) (n m : Netlist) → IsNetlistOf e n → IsNetlistOf e m → n.wires ≡ m.wires
 same_wires e n m hn hm =

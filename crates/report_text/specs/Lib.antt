@@ -1,4 +1,5 @@
+pub mod Versions
 pub mod Report
+pub mod Parts
 pub mod Stored
 pub mod Rows
-pub mod Laws

@@ -1,22 +1,34 @@
 -- The lines of a report, a definition for each kind.
 use Rattle.std.specs.Prelude.{ℕ, Bool, true, false, if◌then◌else◌, List, [], ◌∷◌, ◌++◌, length, map, slice_index, slice_index_or, codes}
-use Rattle.std.specs.List.{flat_map}
+use Rattle.std.specs.List.{flat_map, list_any}
 use Rattle.std.specs.Fmt.{decimal}
 use Rattle.std.specs.FinSet as set
+use Rattle.cpog_base.specs.Pattern.{is_given}
+use Rattle.cpog_defs.specs.declared.types.Bit3.{Bit3}
+use Rattle.cpog_defs.specs.declared.types.Bit3.TheVariants as bits
 use Rattle.cpog_defs.specs.declared.types.OpId.{OpId}
 use Rattle.cpog_defs.specs.declared.types.Gate.{Gate}
+use Rattle.cpog_defs.specs.declared.types.Place.{Place}
+use Rattle.cpog_defs.specs.declared.types.Place.TheVariants.{Op, Arc}
 use Rattle.cpog_defs.specs.declared.types.Ref.{Ref}
 use Rattle.cpog_defs.specs.declared.types.Ref.TheVariants.{Const, Signal}
 use Rattle.cpog_defs.specs.Codes.{word_bits}
 use Rattle.cpog_defs.specs.Graphs.{ConditionalGraph, op_ref, arc_ref}
 use Rattle.cpog_defs.specs.Orders.{Set, each_below}
 use Rattle.cpog_defs.specs.Scenarios.{Scenario}
-use Rattle.report_text.specs.declared.bound.Bound.{Bound}
-use Rattle.report_text.specs.declared.bound.Bound.TheVariants.{Minimum, Unknown}
+use Rattle.gate_template.specs.declared.types.Template.{Template}
+use Rattle.gate_template.specs.declared.types.Template.TheVariants.{First, Second, Third}
+use Rattle.cnf_build.specs.Evidence.{EvidenceValue, OpenValue}
+use Rattle.proof_check.specs.Lines.{Line}
+use Rattle.dimacs_text.specs.Writing.{log_lines}
 use Rattle.netlist_verilog.specs.Wires.{signal_text, name_of}
 use Rattle.netlist_verilog.specs.Module.{ModuleValue}
 use Rattle.netlist_verilog.specs.Rows.{module_lines}
-use Rattle.report_text.specs.Report.{ReportValue, module_of}
+use Rattle.report_text.specs.declared.bound.Bound.{Bound}
+use Rattle.report_text.specs.declared.bound.Bound.TheVariants.{Minimum, Between}
+use Rattle.report_text.specs.declared.version.Version.{Version}
+use Rattle.report_text.specs.Versions.{version_number}
+use Rattle.report_text.specs.Report.{ReportValue}
 
 -- a bit as its digit
 abbrev pub digit : Bool → ℕ
@@ -25,6 +37,16 @@ digit b = if b then 49 else 48
 -- the first bits of a word, that of weight 1 first
 abbrev pub digits_of : ℕ → ℕ → List ℕ
 digits_of bits word = map digit (word_bits word bits)
+
+-- what is asked of a bit: its digit, or a dash where it is open
+abbrev pub entry_digit : Bit3 → ℕ
+entry_digit bits.Zero = 48
+entry_digit bits.One = 49
+entry_digit bits.Free = 45
+
+-- the entries of a pattern behind a blank; nothing where no bit is given
+abbrev pub given_text : List Bit3 → List ℕ
+given_text pattern = if list_any is_given pattern then 32 ∷ map entry_digit pattern else []
 
 -- a constant, a signal, or its complement
 abbrev pub ref_text : ℕ → Ref → List ℕ
@@ -36,6 +58,10 @@ ref_text inputs (Signal n true) = codes "!" ++ signal_text inputs n
 -- each name behind a blank
 abbrev pub blank_names : List (List ℕ) → List ℕ
 blank_names names = flat_map (λ name. 32 ∷ name) names
+
+-- the version of the format
+abbrev pub version_row : Version → List ℕ
+version_row version = codes "cpog report " ++ decimal (version_number version)
 
 -- how many bits a code has
 abbrev pub bits_row : ℕ → List ℕ
@@ -49,9 +75,10 @@ budget_row budget = codes "budget " ++ decimal budget
 abbrev pub operations_row : List (List ℕ) → List ℕ
 operations_row names = codes "operations" ++ blank_names names
 
--- a scenario's name and the digits of its code, that of x0 first
-abbrev pub scenario_row : ℕ → List ℕ → ℕ → List ℕ
-scenario_row bits name code = codes "scenario " ++ (name ++ (codes " " ++ digits_of bits code))
+-- a scenario's name, the digits of its code, that of x0 first, and what is given of them
+abbrev pub scenario_row : ℕ → List ℕ → ℕ → List Bit3 → List ℕ
+scenario_row bits name code pattern =
+    codes "scenario " ++ (name ++ (codes " " ++ (digits_of bits code ++ given_text pattern)))
 
 -- the members below a number, in their order
 abbrev pub members_below : Set → ℕ → List ℕ
@@ -73,7 +100,7 @@ arcs_row names sc = codes "arcs" ++ blank_names (map (arc_text names) sc.arcs)
 abbrev pub scenario_lines : ReportValue → ℕ → List (List ℕ)
 scenario_lines r s =
     let sc = slice_index_or r.scenarios s (record { count = 0; ops = set.empty; arcs = [] }) in
-    scenario_row r.bits (name_of r.scenario_names s) (slice_index r.encoding.codes s)
+    scenario_row r.bits (name_of r.scenario_names s) (slice_index r.encoding.codes s) (slice_index_or r.patterns s [])
     ∷ has_row r.names sc ∷ arcs_row r.names sc ∷ []
 
 -- how many gates there are
@@ -122,20 +149,48 @@ arc_lines_from inputs names graph u count =
 abbrev pub arc_lines : ℕ → List (List ℕ) → ConditionalGraph → List (List ℕ)
 arc_lines inputs names graph = each_below (λ u. arc_lines_from inputs names graph u (length names)) (length names)
 
--- the least number of gates
-abbrev pub minimum_row : ℕ → List ℕ
-minimum_row h = codes "minimum " ++ decimal h
+-- the least number of gates, or the numbers between which it is
+abbrev pub bound_row : Bound → List ℕ
+bound_row (Minimum h) = codes "minimum " ++ decimal h
+bound_row (Between lo hi) = codes "between " ++ (decimal lo ++ (codes " " ++ decimal hi))
+
+-- the number of a template
+abbrev pub template_number : Template → ℕ
+template_number First = 1
+template_number Second = 2
+template_number Third = 3
+
+-- a template and its number of gates
+abbrev pub template_text : Template → ℕ → List ℕ
+template_text kind gates = decimal (template_number kind) ++ (codes " " ++ decimal gates)
+
+-- a place by the names of its operations
+abbrev pub place_row : List (List ℕ) → Place → List ℕ
+place_row names (Op v) = codes "op " ++ name_of names v.0
+place_row names (Arc u v) = codes "arc " ++ (name_of names u.0 ++ (codes " " ++ name_of names v.0))
+
+-- a log below its first line, up to its end
+abbrev pub closed_log : List Line → List (List ℕ)
+closed_log log = log_lines log ++ codes "end" ∷ []
+
+-- what shows that there are no fewer gates
+abbrev pub evidence_lines : List (List ℕ) → EvidenceValue → List (List ℕ)
+evidence_lines names EvidenceValue.Zero = codes "evidence zero" ∷ []
+evidence_lines names (EvidenceValue.Count places) = codes "evidence count" ∷ map (place_row names) places
+evidence_lines names (EvidenceValue.Refutation kind gates log) =
+    (codes "evidence refutation " ++ template_text kind gates) ∷ closed_log log
+
+-- what is left open
+abbrev pub open_lines : OpenValue → List (List ℕ)
+open_lines OpenValue.Closed = codes "open none" ∷ []
+open_lines (OpenValue.Log kind gates log) = (codes "open log " ++ template_text kind gates) ∷ closed_log log
+open_lines (OpenValue.Size kind gates) = (codes "open size " ++ template_text kind gates) ∷ []
 
 -- the lines before the scenarios: the version, the bits, the budget and the operations
 abbrev pub head_lines : ReportValue → List (List ℕ)
-head_lines r = codes "cpog report 1" ∷ bits_row r.bits ∷ budget_row r.budget ∷ operations_row r.names ∷ []
+head_lines r = version_row r.version ∷ bits_row r.bits ∷ budget_row r.budget ∷ operations_row r.names ∷ []
 
--- the least number of gates, its evidence and that nothing is open; or that nothing is known of it
-abbrev pub end_lines : Bound → List (List ℕ)
-end_lines (Minimum h) = minimum_row h ∷ codes "evidence zero" ∷ codes "open none" ∷ []
-end_lines Unknown = codes "bound none" ∷ []
-
--- the module of the netlist, to the end
+-- the module, to the end
 abbrev pub netlist_lines : ModuleValue → List (List ℕ)
 netlist_lines m = codes "netlist" ∷ module_lines m
 
@@ -147,5 +202,6 @@ report_lines r =
     ++ (gates_row (length r.encoding.gates.gates) ∷ gate_lines r.bits r.encoding.gates.gates
     ++ (op_lines r.bits r.names r.encoding.graph
     ++ (arc_lines r.bits r.names r.encoding.graph
-    ++ (end_lines r.bound
-    ++ netlist_lines (module_of r))))))
+    ++ (bound_row r.bound ∷ evidence_lines r.names r.evidence
+    ++ (open_lines r.open_part
+    ++ netlist_lines r.design))))))

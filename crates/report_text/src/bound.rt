@@ -3,6 +3,6 @@
 pub enum Bound {
     /// It is this number.
     Minimum(u32),
-    /// Nothing is known of it yet.
-    Unknown,
+    /// It is at least the first number, and an encoding has the second.
+    Between(u32, u32),
 }

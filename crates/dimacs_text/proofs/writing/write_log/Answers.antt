@@ -1,44 +1,20 @@
-use Rattle.std.proofs.Common.{arith, ap, sym, ◌∙◌, ◌<◌, ◌≡◌, length, take, subst, ℕ, Vec, Global}
-use Rattle.std.specs.List.{AllByRecursion}
-use Rattle.std.proofs.lemmas.List.{take_all}
-use Rattle.proof_check.specs.Lines.{last_id}
-use Rattle.dimacs_text.specs.Logs.{id_after}
-use Rattle.dimacs_text.specs.Writing.{LineFits, LinesWithin}
-use Rattle.proof_check.specs.Refs.{line_of_ref}
-use Rattle.dimacs_text.proofs.LogTextLemmas.{last_push}
-use Rattle.dimacs_text.proofs.WritingLemmas.{lines_more, one_more, fit_more, within_more, whole_written, text_lines, text_spelled}
+use Rattle.std.proofs.Common.{◌≡◌, ◌++◌, ap, ◌∙◌, ℕ, Vec, Global, List}
+use Rattle.line_text.specs.Lines.{text_of}
+use Rattle.dimacs_text.specs.Writing.{log_lines}
+use Rattle.dimacs_text.proofs.WritingLemmas.{text_lines, text_spelled}
 use Rattle.dimacs_text.proofs.writing.write_log.Goals as goal
 
-pub lines-preserved : goal.lines-preserved
-lines-preserved c =
-    let i = c.lines.invariant in
-    let lines = c.args.log.now.lines in
-    let l = line_of_ref c.line.result in
-    let lt : c.lines.i < length lines = omega (arith, c.lines-test.true, c.len-i-end.ensures.len) in
-    record {
-      text = lines_more lines c.lines.i c.lines.last l _ _ _ lt c.line.ensures.is i.last i.text c.in_ok-last.ensures.text;
-      last = c.in_ok-last.ensures.last ∙ sym (ap (last_id 1) (one_more lines c.lines.i l lt c.line.ensures.is) ∙ (last_push 1 (take c.lines.i lines) l ∙ ap (λ (k : ℕ). id_after k l) (sym i.last)));
-      fit = fit_more lines c.lines.i l lt c.line.ensures.is i.fit c.in_ok-last.ensures.fits;
-      within = within_more lines c.lines.i l lt c.line.ensures.is i.within c.in_ok-last.ensures.within;
-    }
+pub returns-clause-text : goal.returns-clause-text
+returns-clause-text c = ap (λ (v : Vec ℕ Global). v.items) c.into_bytes.ensures.value ∙ (c.in_ok-append_log.ensures.text ∙ ap (λ (t : List ℕ). t ++ text_of (log_lines c.args.log.now.lines)) c.new-out.ensures.bytes)
 
 pub returns-clause-lines : goal.returns-clause-lines
 returns-clause-lines c =
-    let i = c.lines.invariant in
-    let lines = c.args.log.now.lines in
-    let all : take c.lines.i lines ≡ lines = take_all c.lines.i lines (omega (arith, c.lines-test.false, c.len-i-end.ensures.len)) in
-    let text = whole_written lines c.lines.i _ _ all c.new-out.ensures.bytes (ap (λ (v : Vec ℕ Global). v.items) c.into_bytes.ensures.value ∙ i.text) in
-    text_lines _ lines text (subst (AllByRecursion LineFits) all i.fit) (subst (LinesWithin 2147483647) all i.within)
+    text_lines _ c.args.log.now.lines
+    (ap (λ (v : Vec ℕ Global). v.items) c.into_bytes.ensures.value ∙ (c.in_ok-append_log.ensures.text ∙ ap (λ (t : List ℕ). t ++ text_of (log_lines c.args.log.now.lines)) c.new-out.ensures.bytes))
+    c.in_ok-append_log.ensures.fits c.in_ok-append_log.ensures.within
 
 pub returns-clause-spells : goal.returns-clause-spells
 returns-clause-spells c variables small within =
-    let i = c.lines.invariant in
-    let lines = c.args.log.now.lines in
-    let all : take c.lines.i lines ≡ lines = take_all c.lines.i lines (omega (arith, c.lines-test.false, c.len-i-end.ensures.len)) in
-    let text = whole_written lines c.lines.i _ _ all c.new-out.ensures.bytes (ap (λ (v : Vec ℕ Global). v.items) c.into_bytes.ensures.value ∙ i.text) in
-    text_spelled variables c.args.log.now.first _ lines text small c.len-i-end.ensures.log.rise c.len-i-end.ensures.log.positive (subst (AllByRecursion LineFits) all i.fit) within
-
-pub returns-clause-within : goal.returns-clause-within
-returns-clause-within c =
-    let all = take_all c.lines.i c.args.log.now.lines (omega (arith, c.lines-test.false, c.len-i-end.ensures.len)) in
-    subst (LinesWithin 2147483647) all c.lines.invariant.within
+    text_spelled variables c.args.log.now.first _ c.args.log.now.lines
+    (ap (λ (v : Vec ℕ Global). v.items) c.into_bytes.ensures.value ∙ (c.in_ok-append_log.ensures.text ∙ ap (λ (t : List ℕ). t ++ text_of (log_lines c.args.log.now.lines)) c.new-out.ensures.bytes))
+    small c.in_ok-append_log.ensures.log.rise c.in_ok-append_log.ensures.log.positive c.in_ok-append_log.ensures.fits within

@@ -1,8 +1,0 @@
-use Rattle.report_text.proofs.WritingLemmas.{head_written}
-use Rattle.report_text.proofs.writing.put_head.Goals as goal
-
-pub returns : goal.returns
-returns c =
-    head_written c.args.report.now c.bits.result c.budget.result c.names.result.now _ _ _ _ c.bits.ensures.bits
-    c.budget.ensures c.names.ensures c.in_ok-write.ensures.bytes c.in_ok-put_names.ensures
-    c.in_ok-push_str.ensures.bytes
