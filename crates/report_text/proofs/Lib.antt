@@ -1,1 +1,11 @@
+pub mod WritingLemmas
+pub mod BelowLemmas
 pub mod NetlistLemmas
+pub mod WordLemmas
+pub mod RowLemmas
+pub mod ScenarioLemmas
+pub mod LogLemmas
+pub mod KnownLemmas
+pub mod LawLemmas
+pub mod FrontLemmas
+pub mod ModuleLemmas

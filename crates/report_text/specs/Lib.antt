@@ -3,3 +3,4 @@ pub mod Report
 pub mod Parts
 pub mod Stored
 pub mod Rows
+pub mod Laws

@@ -10,12 +10,17 @@
 #![tactic(auto)]
 
 mod bound;
+mod given;
+mod known;
+mod laws;
 mod parts;
 mod report;
+mod signals;
 mod version;
 mod writing;
 
 pub use bound::Bound;
+pub use laws::{end_closes_log, module_ends_report, text_tells_report};
 pub use parts::ReportParts;
 pub use report::Report;
 pub use version::Version;
