@@ -65,7 +65,8 @@ reading_whole limit OfBytes whole input s x (inr h) = inl (whole h.bytes s x h.a
 
 synth_whole : (options : SynthOptions) (f : Contents) → AreMade (IsSynthAnswer options f)
 synth_whole options f s x (inl h) = encoding_whole (synth_length options) f s x h
-synth_whole options f s x (inr h) = ap is_made h.0
+synth_whole options f s x (inr (inl h)) = ap is_made h.0
+synth_whole options f s x (inr (inr h)) = ap is_made h.0
 
 normal_whole : (f : Contents) → AreMade (IsNormalAnswer f)
 normal_whole f s x (inl h) = ap is_made h.0

@@ -24,7 +24,7 @@ use Rattle.pg_normal.specs.Denoting.{Stated, stated_in, scenario_names_of, AreSc
 use Rattle.cpog_app.specs.Ordered.{AreOrdersIn}
 use Rattle.cpog_app.specs.Refusal.{At}
 use Rattle.cpog_app.specs.Refusals.{IsEncodingRefusal, IsNameFaultAnswer, IsEmptyAnswer, IsUnboundAnswer, IsCyclicAnswer, IsEqualAnswer, IsManyAnswer}
-use Rattle.cpog_app.specs.Answers.{IsFormsAnswer, IsNormalAnswer, IsReportAnswer, IsReportStatus, IsSynthAnswer}
+use Rattle.cpog_app.specs.Answers.{IsFormsAnswer, IsNormalAnswer, IsReportAnswer, IsClosedReport, IsOpenReport, IsReportStatus, IsSynthAnswer}
 use Rattle.cpog_app.specs.Complete.{CanBeEncoded}
 use Rattle.cpog_app.specs.Laws.{AreAlike}
 use Rattle.cpog_app.proofs.Causes.{Cause, IsOne, AreApart, either, one_at, one_either}
@@ -296,17 +296,22 @@ module _ (options : SynthOptions) (f : Contents) where
     enough = h.synthesis.sound.enough_bits;
   }
 
+  -- a report is printed at the status of one
+  found : (s : Status) (x : List ℕ) → either (At status.Ok (IsClosedReport options f)) (At status.Budget (IsOpenReport options f)) s x → IsReportStatus options s × IsReportAnswer options f x
+  found s x (inl h) = (inl h.0, h.1.printed)
+  found s x (inr h) = (inr (h.1.exact, h.0), h.1.printed)
+
   -- two answers are one, or each is a find
   pub synth_answers_alike : (s t : Status) (x y : List ℕ) → IsSynthAnswer options f s x → IsSynthAnswer options f t y → AreAlike (Some (command.Synth options)) s x t y
   synth_answers_alike s t x y (inl h) (inl k) = inl (one_refusal (synth_length options) f s t x y h k)
-  synth_answers_alike s t x y (inl h) (inr k) = absurd (not_refused (synth_length options) f (of_encoded y k.1) s x h)
-  synth_answers_alike s t x y (inr h) (inl k) = absurd (not_refused (synth_length options) f (of_encoded x h.1) t y k)
-  synth_answers_alike s t x y (inr h) (inr k) = inr (inl h.0, inl k.0)
+  synth_answers_alike s t x y (inl h) (inr k) = absurd (not_refused (synth_length options) f (of_encoded y (found t y k).1) s x h)
+  synth_answers_alike s t x y (inr h) (inl k) = absurd (not_refused (synth_length options) f (of_encoded x (found s x h).1) t y k)
+  synth_answers_alike s t x y (inr h) (inr k) = inr ((found s x h).0, (found t y k).0)
 
   -- its answer has the status of a report where the scenarios can be encoded
   pub synth_is_answered : CanBeEncoded (synth_length options) f → (s : Status) (x : List ℕ) → IsSynthAnswer options f s x → IsReportStatus options s
   synth_is_answered good s x (inl h) = absurd (not_refused (synth_length options) f good s x h)
-  synth_is_answered good s x (inr h) = inl h.0
+  synth_is_answered good s x (inr h) = (found s x h).0
 
 -- ---- `normal`
 

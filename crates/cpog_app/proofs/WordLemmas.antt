@@ -64,12 +64,6 @@ said_within least most w n = by_test (is_number_within least most w) refl
 
 -- ---- options
 
--- one word says none, where it isn't `--exact`
-pub one_word : (said : SaidOptions) (words : List (List ℕ)) → length words ≡ 1 → is_exact (get_or words 0 []) ≡ false → None ≡ option_and_then (joined said) (options_in words)
-one_word said [] e f = absurd (omega (arith, e))
-one_word said (word ∷ []) e f = rw f refl
-one_word said (word ∷ other ∷ words) e f = absurd (omega (arith, e))
-
 -- options of equal parts are equal
 same_said : (p q : Option (Option ℕ)) (r s : Option (Option ℕ)) (t u : Option Bool) → p ≡ q → r ≡ s → t ≡ u → all_said p r t ≡ all_said q s u
 same_said p q r s t u bits budget exact = λ i. all_said (bits i) (budget i) (exact i)
@@ -147,6 +141,11 @@ take_whole [] zero e = refl
 take_whole [] (suc n) e = refl
 take_whole (w ∷ ws) zero e = absurd (omega (arith, e))
 take_whole (w ∷ ws) (suc n) e = ap (λ us. w ∷ us) (take_whole ws n (omega (arith, e)))
+
+-- what stands first is one word
+pub same_first : {W : Type 0} (ws : List W) (a b : W) → 1 ≤ length ws → a ≡ get_or ws 0 a → b ≡ get_or ws 0 b → a ≡ b
+same_first [] a b l first second = absurd (omega (arith, l))
+same_first (x ∷ ws) a b l first second = first ∙ sym second
 
 -- one word stands first
 pub one_first : {W : Type 0} (ws : List W) (w : W) → 1 ≤ length ws → w ≡ get_or ws 0 w → ws ≡ w ∷ take (length ws - 1) (drop 1 ws)

@@ -15,7 +15,8 @@ use std::alloc::Global;
 /// Runs the command that the words name, which are the arguments without the program's name. It reads the source where
 /// the command does, and builds its whole output before the first write.
 ///
-/// The status is `Ok` with a report or with normal forms, and `Usage`, `Text`, `Names`, `Cyclic`, `Equal` or `Limit` with the
+/// The status is `Ok` with what the command prints, `Budget` with a report whose bounds are not equal although the words
+/// say `--exact`, and `Usage`, `Text`, `Names`, `Cyclic`, `Equal` or `Limit` with the
 /// line that says why. It is `ReadFault` where the source failed, `WriteFault` where the sink did, and `Memory` where none
 /// is left.
 pub fn run_cpog<S: Source, K: Sink>(
