@@ -8,16 +8,15 @@ use Rattle.cpog_base.specs.declared.status.Status.{Status}
 use Rattle.cpog_base.specs.declared.status.Status.TheVariants as status
 use Rattle.cpog_defs.specs.Orders.{Order}
 use Rattle.cpog_defs.specs.Scenarios.{Scenario}
-use Rattle.line_text.specs.Lines.{text_of}
 use Rattle.pg_text.specs.Contents.{Contents}
 use Rattle.pg_normal.specs.declared.naming.NameFault.{NameFault}
 use Rattle.pg_normal.specs.declared.naming.NameFault.TheVariants as fault
 use Rattle.pg_normal.specs.Naming.{name_faults, first, IsFirst}
 use Rattle.pg_normal.specs.Normals.{params_in}
 use Rattle.scenario_check.specs.Equals.{AreEqualAt, IsFirstPair}
-use Rattle.report_text.specs.Rows.{report_lines}
 use Rattle.cpog_app.specs.declared.refusal.Refusal.TheVariants as refusal
 use Rattle.cpog_app.specs.declared.words.SynthOptions.{SynthOptions}
+use Rattle.cpog_app.specs.declared.words.Command.TheVariants as command
 use Rattle.cpog_app.specs.declared.encodable.CodeLength.{CodeLength}
 use Rattle.cpog_app.specs.Bits.{synth_length, IsBits}
 use Rattle.cpog_app.specs.Refusal.{refusal_text, IsNamesLine}
@@ -25,14 +24,14 @@ use Rattle.pg_normal.specs.Denoting.{Stated, stated_in, scenario_names_of, AreSc
 use Rattle.cpog_app.specs.Ordered.{AreOrdersIn}
 use Rattle.cpog_app.specs.Refusal.{At}
 use Rattle.cpog_app.specs.Refusals.{IsEncodingRefusal, IsNameFaultAnswer, IsEmptyAnswer, IsUnboundAnswer, IsCyclicAnswer, IsEqualAnswer, IsManyAnswer}
-use Rattle.cpog_app.specs.Answers.{IsFormsAnswer, IsNormalAnswer, IsReportAnswer, IsSynthAnswer}
+use Rattle.cpog_app.specs.Answers.{IsFormsAnswer, IsNormalAnswer, IsReportAnswer, IsClosedReport, IsOpenReport, IsReportStatus, IsSynthAnswer}
 use Rattle.cpog_app.specs.Complete.{CanBeEncoded}
+use Rattle.cpog_app.specs.Laws.{AreAlike}
 use Rattle.cpog_app.proofs.Causes.{Cause, IsOne, AreApart, either, one_at, one_either}
 use Rattle.cpog_app.proofs.BitLemmas.{one_bits}
 use Rattle.cpog_app.proofs.DenotingLemmas.{none_open, length-denoted}
 use Rattle.cpog_app.proofs.OrderAgreement.{one_orders, cyclic_again}
 use Rattle.cpog_app.proofs.ReportLemmas.{length-orders}
-use Rattle.cpog_app.proofs.ReportAgreement.{one_report}
 use Rattle.scenario_check.proofs.CycleLemmas.{cyclic_or_ordered, one_first}
 use Rattle.pg_normal.proofs.TextLaws.{one_normal_text}
 
@@ -280,9 +279,6 @@ encoding_answers_agree asked f answers one encoded =
 -- ---- `synth`
 
 module _ (options : SynthOptions) (f : Contents) where
-  one_report_answer : (x y : List ℕ) → IsReportAnswer options f x → IsReportAnswer options f y → x ≡ y
-  one_report_answer x y h k = h.output_is ∙ ap (λ r. text_of (report_lines r)) (one_report options f h.report k.report h.synthesis k.synthesis) ∙ sym k.output_is
-
   some_stated : (x : List ℕ) → IsReportAnswer options f x → stated_in f ≢ []
   some_stated x h none =
       let sound = h.synthesis.sound in
@@ -300,15 +296,22 @@ module _ (options : SynthOptions) (f : Contents) where
     enough = h.synthesis.sound.enough_bits;
   }
 
-  pub synth_answers_agree : IsOne (IsSynthAnswer options f)
-  synth_answers_agree =
-      encoding_answers_agree (synth_length options) f (At status.Ok (IsReportAnswer options f))
-      (one_at status.Ok (IsReportAnswer options f) one_report_answer) (λ s x h. of_encoded x h.1)
+  -- a report is printed at the status of one
+  found : (s : Status) (x : List ℕ) → either (At status.Ok (IsClosedReport options f)) (At status.Budget (IsOpenReport options f)) s x → IsReportStatus options s × IsReportAnswer options f x
+  found s x (inl h) = (inl h.0, h.1.printed)
+  found s x (inr h) = (inr (h.1.exact, h.0), h.1.printed)
 
-  -- its answer has status 0 where the scenarios can be encoded
-  pub synth_is_ok : CanBeEncoded (synth_length options) f → (s : Status) (x : List ℕ) → IsSynthAnswer options f s x → s ≡ status.Ok
-  synth_is_ok good s x (inl h) = absurd (not_refused (synth_length options) f good s x h)
-  synth_is_ok good s x (inr h) = h.0
+  -- two answers are one, or each is a find
+  pub synth_answers_alike : (s t : Status) (x y : List ℕ) → IsSynthAnswer options f s x → IsSynthAnswer options f t y → AreAlike (Some (command.Synth options)) s x t y
+  synth_answers_alike s t x y (inl h) (inl k) = inl (one_refusal (synth_length options) f s t x y h k)
+  synth_answers_alike s t x y (inl h) (inr k) = absurd (not_refused (synth_length options) f (of_encoded y (found t y k).1) s x h)
+  synth_answers_alike s t x y (inr h) (inl k) = absurd (not_refused (synth_length options) f (of_encoded x (found s x h).1) t y k)
+  synth_answers_alike s t x y (inr h) (inr k) = inr ((found s x h).0, (found t y k).0)
+
+  -- its answer has the status of a report where the scenarios can be encoded
+  pub synth_is_answered : CanBeEncoded (synth_length options) f → (s : Status) (x : List ℕ) → IsSynthAnswer options f s x → IsReportStatus options s
+  synth_is_answered good s x (inl h) = absurd (not_refused (synth_length options) f good s x h)
+  synth_is_answered good s x (inr h) = (found s x h).0
 
 -- ---- `normal`
 

@@ -9,7 +9,6 @@ pub mod PatternLemmas
 pub mod ReportLemmas
 pub mod PrintedLemmas
 pub mod OrderAgreement
-pub mod ReportAgreement
 pub mod Causes
 pub mod RefusalLemmas
 pub mod FileAgreement

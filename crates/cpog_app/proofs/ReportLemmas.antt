@@ -1,32 +1,41 @@
 -- The report of a file is lawful, and is its synthesis.
-use Rattle.std.proofs.Common.{◌≡◌, ◌≢◌, ℕ, zero, suc, ◌+◌, ◌-◌, ◌<◌, ◌≤◌, Bool, true, false, IsTrue, List, [], ◌∷◌, ◌++◌, length, map, IsSomeAnd, slice_index_or, slice_get, if◌then◌else◌, refl, sym, ap, ◌∙◌, subst, arith, inl, inr, length-append}
-use Rattle.std.specs.Prelude.{◌^◌}
+use Rattle.std.proofs.Common.{◌≡◌, ◌≢◌, ℕ, zero, suc, ◌+◌, ◌-◌, ◌<◌, ◌≤◌, Bool, true, false, IsTrue, List, [], ◌∷◌, ◌++◌, length, map, replicate, IsSomeAnd, slice_index_or, slice_get, if◌then◌else◌, refl, sym, ap, ◌∙◌, subst, arith, inl, inr, length-append}
 use Rattle.std.specs.List.{All, AllPairs}
 use Rattle.std.proofs.lemmas.Bool.{cases_lt, both_ways, or_cases, and_parts}
-use Rattle.std.proofs.lemmas.List.{get_or_append_left, get_or-append_right, length-map}
+use Rattle.std.proofs.lemmas.List.{get_or_append_left, get_or-append_right, get_or-replicate, length-map, length-replicate}
+use Rattle.cnf_build.specs.Evidence.{EvidenceValue, OpenValue, IsEvidence, IsOpenPart, HasWrittenEvidence, HasWrittenOpenPart}
+use Rattle.cpog_defs.specs.declared.types.Bit3.{Bit3}
+use Rattle.cpog_defs.specs.declared.types.Bit3.TheVariants.{Free}
 use Rattle.cpog_defs.specs.declared.types.OpId.{OpId}
+use Rattle.cpog_defs.specs.Graphs.{IsPlace}
 use Rattle.cpog_defs.specs.Orders.{Order, is_before, is_covered, IsOrderOf, each_below, arc_of}
 use Rattle.cpog_defs.specs.Scenarios.{Scenario, HasArc, AreOrdersOf}
 use Rattle.cpog_base.specs.Names.{AreDistinct}
 use Rattle.cpog_base.specs.Rows.{has_arc}
 use Rattle.cpog_base.specs.RowLaws.{has_from_contains}
+use Rattle.cpog_merge.specs.ByClass.{IsGraphByClass}
 use Rattle.cpog_merge.specs.Columns.{count_of}
 use Rattle.cpog_merge.proofs.ScenarioLemmas.{fits_is_fitting_scenarios_lem}
-use Rattle.cpog_defs.specs.Codes.{open_patterns}
 use Rattle.cpog_defs.specs.Encodings.{Encoding, IsEncoding, Encodes}
+use Rattle.gate_core.specs.Bounds.{IsLowerBound}
+use Rattle.gate_template.specs.Templates.{ArePatterns}
 use Rattle.handshake_eqs.specs.Netlists.{Netlist, IsNetlistOf}
-use Rattle.pg_text.specs.Contents.{Contents}
+use Rattle.netlist_verilog.specs.Module.{IsModule}
 use Rattle.pg_text.specs.Text.{IsFile}
 use Rattle.report_text.specs.declared.bound.Bound.{Bound}
-use Rattle.report_text.specs.Report.{ReportValue, IsArcBefore, IsBound, IsReport, IsReported}
+use Rattle.report_text.specs.declared.bound.Bound.TheVariants.{Minimum, Between}
+use Rattle.report_text.specs.declared.version.Version.TheVariants.{One}
+use Rattle.report_text.specs.Report.{ReportValue, IsArcBefore, IsBound, IsReportEvidence, IsReportOpen, IsReport, IsReported}
+use Rattle.opcode_assign.specs.Answers.{IsSearched}
 use Rattle.opcode_assign.specs.Assignments.{IsFirstAssignment}
-use Rattle.cpog_base.specs.declared.limits.TheConstants.{BUDGET_LIMIT}
+use Rattle.pg_text.specs.Contents.{Contents}
 use Rattle.pg_normal.specs.Denoting.{Stated, stated_in, scenario_names_of, IsDenoted, AreDenoted}
-use Rattle.cpog_app.specs.Ordered.{AreOrdersIn}
-use Rattle.scenario_check.specs.Equals.{AreDifferent}
+use Rattle.cpog_app.specs.declared.encodable.Encodable.{Encodable}
 use Rattle.cpog_app.specs.declared.words.SynthOptions.{SynthOptions}
-use Rattle.cpog_app.specs.Bits.{synth_length, IsBits}
-use Rattle.cpog_app.specs.Synthesis.{free_patterns, IsBoundOf, IsSound, IsSynthesis}
+use Rattle.cpog_app.specs.Ordered.{AreOrdersIn}
+use Rattle.cpog_app.specs.Bits.{synth_length, MayBeAsked}
+use Rattle.cpog_app.specs.Encodable.{IsEncodable}
+use Rattle.cpog_app.specs.Synthesis.{free_patterns, printed_lower, Attains, IsSound, IsSynthesis}
 use Rattle.order_reduce.specs.Scenarios.{covering_scenario}
 use Rattle.cpog_app.proofs.ArcLemmas.{arcs_from, arcs_where, from_u, begin_below, has_one, has_append}
 use Rattle.cpog_app.proofs.DenotingLemmas.{length-denoted}
@@ -172,63 +181,180 @@ module _ (f : Contents) (orders : List Order) (z : AreOrdersIn f orders) (some :
   pub orders_alike : All (IsOrderOf (count_of orders)) orders
   orders_alike = subst (λ n. All (IsOrderOf n) orders) (sym same_count) (orders_are f orders z)
 
-  -- the report of a file over so many bits is lawful
-  module _ (file : IsFile f) (few : length orders ≤ 64) (bits : ℕ) (some_bit : 1 ≤ bits) (few_bits : bits ≤ 8)
-      (e : Encoding) (encodes : Encodes (count_of orders) orders (open_patterns (length orders)) bits e) (few_gates : length e.gates.gates ≤ 64320)
-      (b : Bound) (bound : IsBound (length e.gates.gates) b) (n : Netlist) (netlist : IsNetlistOf e n)
-      (budget : ℕ) (some_budget : 1 ≤ budget) (few_budget : budget ≤ BUDGET_LIMIT) (distinct : AreDistinct (scenario_names_of f)) where
-    abbrev report : ReportValue
-    report = record { bits = bits; budget = budget; names = f.operations; scenario_names = scenario_names_of f; scenarios = map covering_scenario orders; encoding = e; bound = b; netlist = n }
+-- ---- what a search finds may be reported
 
-    pub report_is_lawful : IsReport report
-    report_is_lawful =
-        let covering : length (map covering_scenario orders) ≡ length orders = length-map orders covering_scenario in
-        record {
-          some_bit = some_bit;
-          few_bits = few_bits;
-          some_budget = some_budget;
-          few_budget = few_budget;
-          few_names = file.1.few_operations;
-          names = operations_are_names f file;
-          distinct = operations_are_distinct f file;
-          some_scenario = omega (arith, covering, some);
-          few_scenarios = omega (arith, covering, few);
-          one_name_each = names_each f orders z ∙ sym covering;
-          scenario_names = scenarios_have_names f file;
-          distinct_scenarios = distinct;
-          scenarios = all_map (IsOrderOf (length f.operations)) (IsReported (length f.operations)) covering_scenario (reported (length f.operations)) orders (orders_are f orders z);
-          inputs = encodes.bits_are;
-          one_code_each = encodes.codes.one_each ∙ sym covering;
-          few_gates = omega (arith, few_gates);
-          encoding = subst (λ m. IsEncoding m e) same_count encodes.encoding;
-          bound = bound;
-          netlist = netlist;
-        }
+-- patterns of open bits are patterns
+pub free_are_patterns : (n bits : ℕ) → ArePatterns bits n (free_patterns n bits)
+free_are_patterns n bits = record {
+  one_each = length-replicate n (replicate bits Free);
+  lengths = λ k d l. ap length (get_or-replicate n k (replicate bits Free) d (omega (arith, l, length-replicate {A = List Bit3} n (replicate bits Free)))) ∙ length-replicate bits Free;
+}
 
-    -- and sound, where the encoding is the first
-    pub report_is_sound : length orders ≤ 2 ^ bits → AreDifferent orders → IsFirstAssignment (count_of orders) orders (free_patterns (length orders) bits) bits e → IsBoundOf (length f.operations) orders e b → IsSound f report
-    report_is_sound enough different first known = record {
-      report = report_is_lawful;
-      names = refl;
-      scenario_names = refl;
-      orders = orders;
-      of_file = z;
-      different = different;
-      enough_bits = enough;
-      scenarios = refl;
-      codes = encodes.codes;
-      fits = (fits_is_fitting_scenarios_lem e z.scenarios orders z.of_scenarios).0 encodes.fits;
-      encodes = subst (λ m. Encodes m orders (open_patterns (length orders)) bits e) same_count encodes;
-      conditions = subst (λ m. IsFirstAssignment m orders (free_patterns (length orders) bits) bits e) same_count first;
-      few_gates = few_gates;
-      bound = known;
-    }
+-- what is left open says that the lower bound is no greater than the number of gates
+pub open_within : (patterns columns : List (List Bit3)) (bits lo hi budget : ℕ) (open_part : OpenValue) → IsOpenPart patterns bits columns lo hi budget open_part → lo ≤ hi
+open_within patterns columns bits lo hi budget OpenValue.Closed h = omega (arith, h)
+open_within patterns columns bits lo hi budget (OpenValue.Log kind gates log) h = omega (arith, h.0)
+open_within patterns columns bits lo hi budget (OpenValue.Size kind gates) h = omega (arith, h.0)
 
-    -- and the file's synthesis, where bits and budget are as they are said
-    pub report_is_synthesis : (options : SynthOptions) → length orders ≤ 2 ^ bits → AreDifferent orders → IsFirstAssignment (count_of orders) orders (free_patterns (length orders) bits) bits e → IsBoundOf (length f.operations) orders e b →
-        IsBits (synth_length options) (length orders) bits → budget ≡ options.budget → IsSynthesis options f report
-    unfolding report_is_sound
-    report_is_synthesis options enough different first known said same = record { sound = report_is_sound enough different first known; bits = said; budget = same }
+-- a lower bound that is printed is no greater than the number of gates
+pub lower_is_within : (b : Bound) (gates lo : ℕ) → printed_lower b ≡ lo → Attains gates b → lo ≤ gates
+lower_is_within (Minimum h) gates lo e attained = omega (arith, e, attained)
+lower_is_within (Between l h) gates lo e attained = omega (arith, e, attained.0, attained.1)
+
+-- so its numbers are few where gates are few
+few_bound : (b : Bound) (gates : ℕ) → Attains gates b → gates < 65536 → IsBound 65536 b
+few_bound (Minimum h) gates attained few = omega (arith, attained, few)
+few_bound (Between l h) gates attained few = (omega (arith, attained.0, attained.1, few), omega (arith, attained.0, few))
+
+module _ (n m : ℕ) (same : n ≡ m) (orders : List Order) (patterns : List (List Bit3)) (bits : ℕ) (columns : List (List Bit3)) (lo : ℕ) (few : lo < 65536) where
+  reported_evidence : (evidence : EvidenceValue) → IsEvidence n orders patterns bits columns lo evidence → HasWrittenEvidence evidence → IsReportEvidence m 65536 evidence
+  reported_evidence EvidenceValue.Zero h w = tt
+  reported_evidence (EvidenceValue.Count places) h w = subst (λ k. All (IsPlace k) places) same h.1.places_are
+  reported_evidence (EvidenceValue.Refutation kind gates log) h w = (omega (arith, h.one_fewer, few), w)
+
+  reported_open : (hi budget : ℕ) (open_part : OpenValue) → IsOpenPart patterns bits columns lo hi budget open_part → HasWrittenOpenPart open_part → IsReportOpen 65536 open_part
+  reported_open hi budget OpenValue.Closed h w = tt
+  reported_open hi budget (OpenValue.Log kind gates log) h w = (omega (arith, h.1.gates_are, few), w)
+  reported_open hi budget (OpenValue.Size kind gates) h w = omega (arith, h.1.gates_are, few)
+
+-- what a search says of lists it says of equal ones
+pub search_of_equal : (orders os : List Order) (given ps : List (List Bit3)) → orders ≡ os → given ≡ ps → (bits budget : ℕ) (e : Encoding) (lo : ℕ) (evidence : EvidenceValue) (open_part : OpenValue) →
+    IsSearched orders given bits budget e lo evidence open_part → IsSearched os ps bits budget e lo evidence open_part
+search_of_equal orders os given ps same_orders same_given bits budget e lo evidence open_part h =
+    subst (λ ys. IsSearched os ys bits budget e lo evidence open_part) same_given (subst (λ ys. IsSearched ys given bits budget e lo evidence open_part) same_orders h)
+
+-- ---- the report of what can be encoded
+
+module _ (options : SynthOptions) (may : MayBeAsked options) (x : Encodable) (is : IsEncodable (synth_length options) x.file x)
+    (file : IsFile x.file) (distinct : AreDistinct (scenario_names_of x.file)) (e : Encoding) (lo : ℕ) (evidence : EvidenceValue) (open_part : OpenValue)
+    (found : IsSearched x.orders.items (free_patterns (length x.orders.items) x.bits) x.bits options.budget e lo evidence open_part)
+    (b : Bound) (lower : printed_lower b ≡ lo) (attained : Attains (length e.gates.gates) b)
+    (n : Netlist) (netlist : IsNetlistOf e n) where
+  abbrev orders : List Order
+  orders = x.orders.items
+
+  abbrev given : List (List Bit3)
+  given = free_patterns (length orders) x.bits
+
+  abbrev count : ℕ
+  count = length x.file.operations
+
+  abbrev report : ReportValue
+  report = record {
+    version = One;
+    bits = x.bits;
+    budget = options.budget;
+    names = x.file.operations;
+    scenario_names = scenario_names_of x.file;
+    patterns = given;
+    scenarios = map covering_scenario orders;
+    encoding = e;
+    bound = b;
+    evidence = evidence;
+    open_part = open_part;
+    design = record { names = x.file.operations; netlist = n };
+  }
+
+  same : count_of orders ≡ count
+  same = same_count x.file orders is.orders is.some
+
+  few_gates : length e.gates.gates < 65536
+  few_gates = omega (arith, found.few_gates)
+
+  few_lower : lo < 65536
+  few_lower = omega (arith, lower_is_within b (length e.gates.gates) lo lower attained, few_gates)
+
+  covering : length (map covering_scenario orders) ≡ length orders
+  covering = length-map orders covering_scenario
+
+  encoding : IsEncoding count e
+  encoding = subst (λ m. IsEncoding m e) same found.encodes.encoding
+
+  -- the netlist of the encoding with the file's names is a module
+  design_is : IsModule (record { names = x.file.operations; netlist = n })
+  design_is =
+      let operations : length n.conditions ≡ count = ap length netlist.conditions ∙ encoding.graph.ops in
+      let inputs : n.gates.inputs ≡ x.bits = ap (λ g. g.inputs) netlist.gates ∙ found.encodes.bits_are in
+      let gates : length n.gates.gates ≡ length e.gates.gates = ap (λ g. length g.gates) netlist.gates in
+      record {
+        names = operations_are_names x.file file;
+        distinct = operations_are_distinct x.file file;
+        one_name_each = sym operations;
+        some_input = omega (arith, inputs, is.some_bit);
+        few_inputs = omega (arith, inputs, is.few_bits);
+        few_gates = omega (arith, gates, few_gates);
+        gates = rw netlist.gates encoding.gates;
+        netlist = netlist.netlist;
+      }
+
+  pub report_is_lawful : IsReport report
+  report_is_lawful = record {
+    some_bit = is.some_bit;
+    few_bits = is.few_bits;
+    some_budget = may.some_budget;
+    few_budget = may.few_budget;
+    few_names = file.1.few_operations;
+    names = operations_are_names x.file file;
+    distinct = operations_are_distinct x.file file;
+    some_scenario = omega (arith, covering, is.some);
+    few_scenarios = omega (arith, covering, is.few);
+    one_name_each = names_each x.file orders is.orders ∙ sym covering;
+    scenario_names = scenarios_have_names x.file file;
+    distinct_scenarios = distinct;
+    patterns = subst (λ k. ArePatterns x.bits k given) (sym covering) (free_are_patterns (length orders) x.bits);
+    scenarios = all_map (IsOrderOf count) (IsReported count) covering_scenario (reported count) orders (orders_are x.file orders is.orders);
+    inputs = found.encodes.bits_are;
+    one_code_each = found.encodes.codes.one_each ∙ sym covering;
+    few_gates = few_gates;
+    encoding = encoding;
+    bound = few_bound b (length e.gates.gates) attained few_gates;
+    evidence = reported_evidence (count_of orders) count same orders given x.bits found.classes.columns lo few_lower evidence found.is_evidence found.written.of_evidence;
+    open_part = reported_open (count_of orders) count same orders given x.bits found.classes.columns lo few_lower (length e.gates.gates) options.budget open_part found.is_open_part found.written.of_open_part;
+    design = design_is;
+  }
+
+  -- and sound
+  pub report_is_sound : IsSound x.file report
+  report_is_sound = record {
+    report = report_is_lawful;
+    names = refl;
+    scenario_names = refl;
+    orders = orders;
+    of_file = is.orders;
+    different = is.different;
+    scenarios = refl;
+    codes = found.encodes.codes;
+    given = refl;
+    given_kept = found.encodes.given;
+    fits = (fits_is_fitting_scenarios_lem e is.orders.scenarios orders is.orders.of_scenarios).0 found.encodes.fits;
+    module_names = refl;
+    module_netlist = netlist;
+    lower_bound = subst (λ m. IsLowerBound m orders given x.bits (printed_lower b)) same (subst (λ k. IsLowerBound (count_of orders) orders given x.bits k) (sym lower) found.lower);
+    one_count = orders_are x.file orders is.orders;
+    enough_bits = is.enough;
+    compared = subst (λ m. Encodes m orders given x.bits e) same found.encodes;
+    attained = attained;
+    few_gates = found.few_gates;
+    columns = found.columns;
+    are_columns = found.are_columns;
+    classes = found.classes;
+    are_classes = found.are_classes;
+    evidence = subst (λ m. IsEvidence m orders given x.bits found.classes.columns (printed_lower b) evidence) same
+        (subst (λ k. IsEvidence (count_of orders) orders given x.bits found.classes.columns k evidence) (sym lower) found.is_evidence);
+    taken = found.taken;
+    counting_set = found.set;
+    counting_bound = subst (λ k. length found.taken ≤ k + x.bits) (sym lower) found.counted;
+    open_part = subst (λ k. IsOpenPart given x.bits found.classes.columns k (length e.gates.gates) options.budget open_part) (sym lower) found.is_open_part;
+    refs = found.refs;
+    serve = found.serve;
+    conditions = subst (λ m. IsGraphByClass m found.classes found.refs e.graph) same found.conditions;
+    first = λ l. subst (λ m. IsFirstAssignment m orders given x.bits e) same (found.first (subst (λ k. k < length e.gates.gates) lower l));
+  }
+
+  -- and the file's synthesis, over bits and with a budget as they are said
+  pub report_is_synthesis : IsSynthesis options x.file report
+  unfolding report_is_sound
+  report_is_synthesis = record { sound = report_is_sound; bits = is.bits; budget = refl }
 
 -- an operation of a denoted scenario is below the number of operations
 pub operation_below : (count : ℕ) (xs : List Stated) (scs : List Scenario) (s v : ℕ) → AreDenoted count xs scs → IsSomeAnd (slice_get scs s) (λ sc. v < sc.count) → v < count

@@ -1,5 +1,5 @@
--- The answers of `solve` to a text: one status, and one output where it isn't that of a find.
-use Rattle.std.proofs.Common.{◌≡◌, ◌≢◌, ℕ, List, sym, ap, ◌∙◌, arith, inl, inr}
+-- The answers of `solve` to a text: one answer, or finds.
+use Rattle.std.proofs.Common.{◌≡◌, ℕ, List, Some, sym, ap, ◌∙◌, arith, inl, inr}
 use Rattle.cpog_base.specs.declared.status.Status.{Status}
 use Rattle.cpog_base.specs.declared.status.Status.TheVariants as status
 use Rattle.clause_arena.specs.Clauses.{Clause}
@@ -10,24 +10,26 @@ use Rattle.dimacs_text.proofs.OneTextLemmas.{one_formula}
 use Rattle.dimacs_text.specs.Formulas.{SpellsFormula}
 use Rattle.dimacs_text.specs.Texts.{IsFormulaText}
 use Rattle.cpog_app.specs.declared.refusal.Refusal.TheVariants as refusal
+use Rattle.cpog_app.specs.declared.words.Command.TheVariants as command
 use Rattle.cpog_app.specs.Refusal.{refusal_text}
 use Rattle.cpog_app.specs.Solved.{IsSolveAnswer}
 use Rattle.cpog_app.specs.Complete.{SpellFormula}
+use Rattle.cpog_app.specs.Laws.{AreAlike}
 
 module _ (budget : ℕ) (bytes : List ℕ) where
   not_bad : (line v : ℕ) (cs : List Clause) → IsFirstBad IsFormulaText (free_lines bytes) line → SpellsFormula (free_lines bytes) v cs → ⊥
   not_bad line v cs first spells = (bad_lines_told IsFormulaText).0 (free_lines bytes) line first (v, cs, spells)
 
-  -- two answers have one status, and one output where it isn't a find
-  pub solve_answers_alike : (s t : Status) (x y : List ℕ) → IsSolveAnswer budget bytes s x → IsSolveAnswer budget bytes t y → (s ≡ t) × (s ≢ status.Ok → x ≡ y)
-  solve_answers_alike s t x y (inl (inl h)) (inl (inl k)) = (
+  -- two answers are one, or each is a find
+  pub solve_answers_alike : (s t : Status) (x y : List ℕ) → IsSolveAnswer budget bytes s x → IsSolveAnswer budget bytes t y → AreAlike (Some (command.Solve budget)) s x t y
+  solve_answers_alike s t x y (inl (inl h)) (inl (inl k)) = inl (
     h.0 ∙ sym k.0,
-    λ n. h.1.output_is ∙ (ap (λ line. refusal_text (refusal.Text line)) ((bad_lines_told IsFormulaText).1 (free_lines bytes) h.1.line k.1.line h.1.first k.1.first) ∙ sym k.1.output_is),
+    h.1.output_is ∙ (ap (λ line. refusal_text (refusal.Text line)) ((bad_lines_told IsFormulaText).1 (free_lines bytes) h.1.line k.1.line h.1.first k.1.first) ∙ sym k.1.output_is),
   )
   solve_answers_alike s t x y (inl (inl h)) (inl (inr k)) = absurd (not_bad h.1.line k.1.variables k.1.clauses h.1.first k.1.spells)
   solve_answers_alike s t x y (inl (inl h)) (inr k) = absurd (not_bad h.1.line k.1.variables k.1.clauses h.1.first k.1.spells)
   solve_answers_alike s t x y (inl (inr h)) (inl (inl k)) = absurd (not_bad k.1.line h.1.variables h.1.clauses k.1.first h.1.spells)
-  solve_answers_alike s t x y (inl (inr h)) (inl (inr k)) = (h.0 ∙ sym k.0, λ n. h.1.output_is ∙ sym k.1.output_is)
+  solve_answers_alike s t x y (inl (inr h)) (inl (inr k)) = inl (h.0 ∙ sym k.0, h.1.output_is ∙ sym k.1.output_is)
   solve_answers_alike s t x y (inl (inr h)) (inr k) =
       let same = one_formula (free_lines bytes) h.1.variables k.1.variables h.1.clauses k.1.clauses h.1.spells k.1.spells in
       absurd (omega (arith, same.0, h.1.many, k.1.few))
@@ -35,7 +37,7 @@ module _ (budget : ℕ) (bytes : List ℕ) where
   solve_answers_alike s t x y (inr h) (inl (inr k)) =
       let same = one_formula (free_lines bytes) h.1.variables k.1.variables h.1.clauses k.1.clauses h.1.spells k.1.spells in
       absurd (omega (arith, same.0, k.1.many, h.1.few))
-  solve_answers_alike s t x y (inr h) (inr k) = (h.0 ∙ sym k.0, λ n. absurd (n h.0))
+  solve_answers_alike s t x y (inr h) (inr k) = inr (h.0, k.0)
 
   -- the answer has status 0 where the bytes spell a formula of few variables
   pub solve_is_ok : SpellFormula bytes → (s : Status) (x : List ℕ) → IsSolveAnswer budget bytes s x → s ≡ status.Ok

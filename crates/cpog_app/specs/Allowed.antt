@@ -6,6 +6,7 @@ use Rattle.cpog_base.specs.declared.limits.Counted.TheVariants as counted
 use Rattle.cpog_base.specs.declared.status.Status.{Status}
 use Rattle.cpog_base.specs.declared.status.Status.TheVariants as status
 use Rattle.cpog_outside.specs.Causes.{Rose}
+use Rattle.cpog_outside.specs.Room.{HasRoom}
 use Rattle.cpog_outside.specs.Told.{IsAllOf, IsLonger, TakesFront}
 use Rattle.pg_text.specs.Contents.{Contents}
 use Rattle.pg_text.specs.Text.{IsFileOf}
@@ -98,15 +99,16 @@ pub record IsPrinted (words : List (List ℕ)) (input : Input) (s : Status) (tak
   pub allowed : IsAllowed words input s output
   pub whole : Appends taken taken_after output
 
--- a front of an allowed output was taken before the sink failed
-pub record IsCutShort (words : List (List ℕ)) (input : Input) (taken taken_after : Option (List ℕ)) : Type 0 where
+-- a front of an allowed output was taken before the sink failed, which had no room for all of it
+pub record IsCutShort (words : List (List ℕ)) (input : Input) (room : Option ℕ) (taken taken_after : Option (List ℕ)) : Type 0 where
   pub status : Status
   pub output : List ℕ
   pub allowed : IsAllowed words input status output
   pub front : TakesFront taken taken_after output
+  pub no_room : ¬ HasRoom room (length output)
 
--- how a run ends, by its status: nothing was written, a front was, or all
-abbrev pub Ends : List (List ℕ) → Input → Option (List ℕ) → Option (List ℕ) → Status → Type 0
-Ends words input taken taken_after status.Memory = Keeps taken taken_after
-Ends words input taken taken_after status.WriteFault = IsCutShort words input taken taken_after
-Ends words input taken taken_after other = IsPrinted words input other taken taken_after
+-- how a run into a sink with so much room ends, by its status: nothing was written, a front was, or all
+abbrev pub Ends : List (List ℕ) → Input → Option ℕ → Option (List ℕ) → Option (List ℕ) → Status → Type 0
+Ends words input room taken taken_after status.Memory = Keeps taken taken_after
+Ends words input room taken taken_after status.WriteFault = IsCutShort words input room taken taken_after
+Ends words input room taken taken_after other = IsPrinted words input other taken taken_after

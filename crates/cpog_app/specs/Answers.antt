@@ -1,5 +1,5 @@
--- What each command prints for a file: it is refused, or this is the answer of status 0.
-use Rattle.std.specs.Prelude.{◌≡◌, ◌⊎◌, List, ℕ}
+-- What each command prints for a file: it is refused, or this is the answer.
+use Rattle.std.specs.Prelude.{◌≡◌, ◌⊎◌, List, ℕ, ◌<◌, IsTrue, length}
 use Rattle.cpog_base.specs.declared.status.Status.{Status}
 use Rattle.cpog_base.specs.declared.status.Status.TheVariants as status
 use Rattle.line_text.specs.Lines.{text_of}
@@ -7,7 +7,7 @@ use Rattle.pg_text.specs.Contents.{Contents}
 use Rattle.pg_normal.specs.declared.normal.Normal.{Normal}
 use Rattle.pg_normal.specs.Normals.{AreNormalsOf}
 use Rattle.pg_normal.specs.Listing.{normal_text}
-use Rattle.report_text.specs.Report.{ReportValue}
+use Rattle.report_text.specs.Report.{ReportValue, LogsFit}
 use Rattle.report_text.specs.Rows.{report_lines}
 use Rattle.cpog_app.specs.declared.words.CnfOptions.{CnfOptions}
 use Rattle.cpog_app.specs.declared.words.SynthOptions.{SynthOptions}
@@ -15,7 +15,7 @@ use Rattle.cpog_app.specs.Bits.{synth_length, cnf_length}
 use Rattle.cpog_app.specs.Formula.{IsLargeAnswer, IsFormulaAnswer}
 use Rattle.cpog_app.specs.Refusal.{At}
 use Rattle.cpog_app.specs.Refusals.{IsNamesRefusal, IsEncodingRefusal}
-use Rattle.cpog_app.specs.Synthesis.{IsSynthesis}
+use Rattle.cpog_app.specs.Synthesis.{printed_lower, IsSynthesis}
 use Rattle.cpog_app.specs.Printed.{PrintsController}
 
 -- ---- `normal`
@@ -32,16 +32,35 @@ IsNormalAnswer f s output = IsNamesRefusal f s output ⊎ At status.Ok (IsFormsA
 
 -- ---- `synth`
 
--- the text of its report, which ends with a controller of its scenarios under the printed codes
+-- the text of its report, which tells it, as the numbers of its logs are words of 32 bits, and ends with a controller of its
+-- scenarios under the printed codes
 pub record IsReportAnswer (options : SynthOptions) (f : Contents) (output : List ℕ) : Type 0 where
   pub report : ReportValue
   pub synthesis : IsSynthesis options f report
+  pub fits : LogsFit report
   pub output_is : output ≡ text_of (report_lines report)
   pub controller : PrintsController f.operations synthesis.sound.orders report.encoding.codes output
 
--- the answers to `synth`: its scenarios are refused, or the report
+-- the statuses at which a report is printed: 0, and 10 too where `--exact` stands
+abbrev pub IsReportStatus : SynthOptions → Status → Type 0
+IsReportStatus options s = (s ≡ status.Ok) ⊎ (IsTrue options.exact × (s ≡ status.Budget))
+
+-- the report, whose bounds are equal where `--exact` stands
+pub record IsClosedReport (options : SynthOptions) (f : Contents) (output : List ℕ) : Type 0 where
+  pub printed : IsReportAnswer options f output
+  pub closed : IsTrue options.exact → printed_lower printed.report.bound ≡ length printed.report.encoding.gates.gates
+
+-- `--exact` stands, and the report, whose lower bound is less than its number of gates
+pub record IsOpenReport (options : SynthOptions) (f : Contents) (output : List ℕ) : Type 0 where
+  pub exact : IsTrue options.exact
+  pub printed : IsReportAnswer options f output
+  pub unequal : printed_lower printed.report.bound < length printed.report.encoding.gates.gates
+
+-- the answers to `synth`: its scenarios are refused, or the report, at 10 where `--exact` stands and its bounds aren't equal
 abbrev pub IsSynthAnswer : SynthOptions → Contents → Status → List ℕ → Type 0
-IsSynthAnswer options f s output = IsEncodingRefusal (synth_length options) f s output ⊎ At status.Ok (IsReportAnswer options f) s output
+IsSynthAnswer options f s output =
+    IsEncodingRefusal (synth_length options) f s output
+    ⊎ (At status.Ok (IsClosedReport options f) s output ⊎ At status.Budget (IsOpenReport options f) s output)
 
 -- ---- `cnf`
 

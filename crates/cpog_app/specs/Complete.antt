@@ -23,6 +23,7 @@ use Rattle.cpog_app.specs.Formula.{AreClassesIn, open_template}
 use Rattle.pg_normal.specs.Denoting.{stated_in}
 use Rattle.cpog_app.specs.Ordered.{AreOrdersIn}
 use Rattle.scenario_check.specs.Equals.{AreDifferent}
+use Rattle.cpog_app.specs.Answers.{IsReportStatus}
 use Rattle.cpog_app.specs.Allowed.{Input, IsAllowed, Ends}
 use Rattle.cpog_app.specs.Judged.{SpellRefutation}
 
@@ -72,12 +73,24 @@ pub record IsGoodRun (words : List (List ℕ)) (bytes : List ℕ) : Type 0 where
   pub named : command_of words ≡ Some command
   pub good : AreGoodFor command bytes
 
+-- the statuses at which words are answered whole: 0, and those of a report
+abbrev pub IsAnswered : Option Command → Status → Type 0
+IsAnswered (Some (command.Synth options)) s = IsReportStatus options s
+IsAnswered other s = s ≡ status.Ok
+
 -- a good run in which no end fails is ended by its whole output, or by want of memory
 abbrev pub RunsAreComplete : Type 0
-RunsAreComplete = (words : List (List ℕ)) (told : List ℕ) (input : Input) (taken taken_after : Option (List ℕ)) (s : Status) →
-    input.left ≡ Some told → IsGoodRun words told → Ends words input taken taken_after s →
-    s ≢ status.ReadFault → s ≢ status.WriteFault → (s ≡ status.Ok) ⊎ (s ≡ status.Memory)
+RunsAreComplete = (words : List (List ℕ)) (told : List ℕ) (input : Input) (room : Option ℕ) (taken taken_after : Option (List ℕ)) (s : Status) →
+    input.left ≡ Some told → IsGoodRun words told → Ends words input room taken taken_after s →
+    s ≢ status.ReadFault → s ≢ status.WriteFault → IsAnswered (command_of words) s ⊎ (s ≡ status.Memory)
 
--- the sink has room for whatever the words and the input allow
-abbrev pub HasRoomForAll : List (List ℕ) → Input → Option ℕ → Type 0
-HasRoomForAll words input room = (s : Status) (output : List ℕ) → IsAllowed words input s output → HasRoom room (length output)
+-- an output that the words and the input allow, and for which a sink has no room
+pub record OutgrowsRoom (words : List (List ℕ)) (input : Input) (room : Option ℕ) : Type 0 where
+  pub status : Status
+  pub output : List ℕ
+  pub allowed : IsAllowed words input status output
+  pub no_room : ¬ HasRoom room (length output)
+
+-- the count of a sink's faults stays, or it has no room for an allowed output
+abbrev pub StaysQuiet : List (List ℕ) → Input → Option ℕ → ℕ → ℕ → Type 0
+StaysQuiet words input room faults faults_after = (faults_after ≡ faults) ⊎ OutgrowsRoom words input room

@@ -1,16 +1,22 @@
 -- Laws of what a run may print.
-use Rattle.std.specs.Prelude.{◌≡◌, ◌≢◌, ℕ, List, Option, Some}
+use Rattle.std.specs.Prelude.{◌≡◌, ◌≢◌, ◌⊎◌, ℕ, List, Option, Some}
 use Rattle.cpog_base.specs.declared.status.Status.{Status}
 use Rattle.cpog_base.specs.declared.status.Status.TheVariants as status
 use Rattle.cpog_app.specs.declared.words.Command.{Command}
 use Rattle.cpog_app.specs.declared.words.Command.TheVariants as command
 use Rattle.cpog_app.specs.Words.{command_of}
+use Rattle.cpog_app.specs.Answers.{IsReportStatus}
 use Rattle.cpog_app.specs.Allowed.{Input, IsAllowed}
 
--- two answers have one status and one output; but two searches that end with status 0 may print what each of them found
+-- the statuses at which words print what a search found
+abbrev pub IsFind : Option Command → Status → Type 0
+IsFind (Some (command.Synth options)) s = IsReportStatus options s
+IsFind (Some (command.Solve budget)) s = s ≡ status.Ok
+IsFind other s = ⊥
+
+-- two answers have one status and one output; or each is what its search found
 abbrev pub AreAlike : Option Command → Status → List ℕ → Status → List ℕ → Type 0
-AreAlike (Some (command.Solve budget)) s x t y = (s ≡ t) × (s ≢ status.Ok → x ≡ y)
-AreAlike other s x t y = (s ≡ t) × (x ≡ y)
+AreAlike words s x t y = ((s ≡ t) × (x ≡ y)) ⊎ (IsFind words s × IsFind words t)
 
 -- two answers to the same words and told bytes that are no read fault are alike
 abbrev pub AllowedAgree : Type 0

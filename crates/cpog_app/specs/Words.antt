@@ -1,5 +1,5 @@
 -- The words of the command line, and the command that they name.
-use Rattle.std.specs.Prelude.{List, [], ◌∷◌, ℕ, suc, zero, ◌&&◌, nat_le, Bool, Option, Some, None, if◌then◌else◌, option_and_then, option_map, unwrap_or, codes}
+use Rattle.std.specs.Prelude.{List, [], ◌∷◌, ℕ, suc, zero, ◌&&◌, nat_le, Bool, true, false, Option, Some, None, if◌then◌else◌, option_and_then, option_map, unwrap_or, codes}
 use Rattle.std.specs.Fmt.{decimal}
 use Rattle.std.specs.Str.{bytes_eq}
 use Rattle.std.specs.Str.Parse.{digits_value}
@@ -35,25 +35,35 @@ either_said None other = Some other
 either_said (Some n) None = Some (Some n)
 either_said (Some n) (Some m) = None
 
--- these bits and this budget, where there are both
-abbrev pub both_said : Option (Option ℕ) → Option (Option ℕ) → Option SaidOptions
-both_said bits budget = option_and_then (λ d. option_map (λ n. record { bits = d; budget = n }) budget) bits
+-- whether one of two says it, where they don't both
+abbrev pub once_said : Bool → Bool → Option Bool
+once_said false other = Some other
+once_said true false = Some true
+once_said true true = None
+
+-- these bits, this budget and whether `--exact` is said, where there are all three
+abbrev pub all_said : Option (Option ℕ) → Option (Option ℕ) → Option Bool → Option SaidOptions
+all_said bits budget exact = option_and_then (λ d. option_and_then (λ n. option_map (λ x. record { bits = d; budget = n; exact = x }) exact) budget) bits
 
 -- the options of both, where neither says what the other says
 abbrev pub joined : SaidOptions → SaidOptions → Option SaidOptions
-joined a b = both_said (either_said a.bits b.bits) (either_said a.budget b.budget)
+joined a b = all_said (either_said a.bits b.bits) (either_said a.budget b.budget) (once_said a.exact b.exact)
 
 -- no option
 abbrev pub unsaid : SaidOptions
-unsaid = record { bits = None; budget = None }
+unsaid = record { bits = None; budget = None; exact = false }
 
 -- a number of code bits alone
 abbrev pub bits_alone : ℕ → SaidOptions
-bits_alone bits = record { bits = Some bits; budget = None }
+bits_alone bits = record { bits = Some bits; budget = None; exact = false }
 
 -- a budget alone
 abbrev pub budget_alone : ℕ → SaidOptions
-budget_alone budget = record { bits = None; budget = Some budget }
+budget_alone budget = record { bits = None; budget = Some budget; exact = false }
+
+-- `--exact` alone
+abbrev pub exact_alone : SaidOptions
+exact_alone = record { bits = None; budget = None; exact = true }
 
 -- what an option and its value say: `--bits` and a number from 1 to 8, or `--budget` and one from 1 to 8388608
 abbrev pub option_in : List ℕ → List ℕ → Option SaidOptions
@@ -61,11 +71,19 @@ option_in name value =
     if bytes_eq name (codes "--bits") then option_map bits_alone (bits_in value)
     else (if bytes_eq name (codes "--budget") then option_map budget_alone (budget_in value) else None)
 
--- the options that words say, each at most once
+-- an option and those behind it, where neither says what the other says
+abbrev pub before : Option SaidOptions → Option SaidOptions → Option SaidOptions
+before one others = option_and_then (λ a. option_and_then (joined a) others) one
+
+-- the word `--exact`, which has no value
+abbrev pub is_exact : List ℕ → Bool
+is_exact word = bytes_eq word (codes "--exact")
+
+-- the options that words say, each at most once: the word `--exact`, or a name and its value
 abbrev pub options_in : List (List ℕ) → Option SaidOptions
 options_in [] = Some unsaid
-options_in (name ∷ value ∷ words) = option_and_then (λ one. option_and_then (joined one) (options_in words)) (option_in name value)
-options_in words = None
+options_in (word ∷ []) = if is_exact word then Some exact_alone else None
+options_in (word ∷ value ∷ words) = if is_exact word then before (Some exact_alone) (options_in (value ∷ words)) else before (option_in word value) (options_in words)
 
 -- ---- commands
 
@@ -74,13 +92,17 @@ abbrev pub without : Option ℕ → Option Command → Option Command
 without None command = command
 without (Some said) command = None
 
--- `synth` by its options, which say no budget
-abbrev pub synth_of : SaidOptions → Option Command
-synth_of said = without said.budget (Some (command.Synth (record { bits = said.bits; budget = DEFAULT_BUDGET })))
+-- a command, where `--exact` isn't said
+abbrev pub without_exact : Bool → Option Command → Option Command
+without_exact exact command = if exact then None else command
+
+-- `synth` by its options
+abbrev pub synth_of : SaidOptions → Command
+synth_of said = command.Synth (record { bits = said.bits; budget = unwrap_or said.budget DEFAULT_BUDGET; exact = said.exact })
 
 -- the words behind `synth`
 abbrev pub synth_in : List (List ℕ) → Option Command
-synth_in words = option_and_then synth_of (options_in words)
+synth_in words = option_map synth_of (options_in words)
 
 -- `normal`, where no words stand behind it
 abbrev pub normal_in : List (List ℕ) → Option Command
@@ -98,18 +120,18 @@ cnf_over gates None = Some (command.Cnf (record { gates = gates; bits = None }))
 cnf_over gates (Some (suc zero)) = None
 cnf_over gates (Some bits) = Some (command.Cnf (record { gates = gates; bits = Some bits }))
 
--- the same by the options, which say no budget
+-- the same by the options, which say bits alone
 abbrev pub cnf_of : ℕ → SaidOptions → Option Command
-cnf_of gates said = without said.budget (cnf_over gates said.bits)
+cnf_of gates said = without_exact said.exact (without said.budget (cnf_over gates said.bits))
 
 -- `cnf`, a number of gates from 0 to 4096, and its options
 abbrev pub cnf_in : List (List ℕ) → Option Command
 cnf_in [] = None
 cnf_in (gates ∷ words) = option_and_then (λ g. option_and_then (cnf_of g) (options_in words)) (number_within 0 CNF_GATE_LIMIT gates)
 
--- `solve` by its options, which say no bits
+-- `solve` by its options, which say a budget alone
 abbrev pub solve_of : SaidOptions → Option Command
-solve_of said = without said.bits (Some (command.Solve (unwrap_or said.budget DEFAULT_BUDGET)))
+solve_of said = without_exact said.exact (without said.bits (Some (command.Solve (unwrap_or said.budget DEFAULT_BUDGET))))
 
 -- the words behind `solve`
 abbrev pub solve_in : List (List ℕ) → Option Command

@@ -4,7 +4,8 @@ ghost use Rattle.std.specs.String.{string_bytes};
 ghost use Rattle.cpog_outside.specs.Causes.{Rose};
 ghost use Rattle.cpog_outside.specs.Told.{LosesFront};
 ghost use Rattle.cpog_app.specs.Allowed.{Ends};
-ghost use Rattle.cpog_app.specs.Complete.{IsGoodRun, HasRoomForAll};
+ghost use Rattle.cpog_app.specs.Complete.{IsGoodRun, IsAnswered, OutgrowsRoom, StaysQuiet};
+ghost use Rattle.cpog_app.specs.Words.{command_of};
 
 use crate::answer::make_answer;
 use cpog_base::Status;
@@ -14,7 +15,8 @@ use std::alloc::Global;
 /// Runs the command that the words name, which are the arguments without the program's name. It reads the source where
 /// the command does, and builds its whole output before the first write.
 ///
-/// The status is `Ok` with a report or with normal forms, and `Usage`, `Text`, `Names`, `Cyclic`, `Equal` or `Limit` with the
+/// The status is `Ok` with what the command prints, `Budget` with a report whose bounds are not equal although the words
+/// say `--exact`, and `Usage`, `Text`, `Names`, `Cyclic`, `Equal` or `Limit` with the
 /// line that says why. It is `ReadFault` where the source failed, `WriteFault` where the sink did, and `Memory` where none
 /// is left.
 pub fn run_cpog<S: Source, K: Sink>(
@@ -26,7 +28,7 @@ pub fn run_cpog<S: Source, K: Sink>(
     // What was printed is what the words and the input allow at this status: whole, or a front of it where the sink failed.
     ensures ends { Ends (map string_bytes words.now)
         (record { left = S.left source.old; left_after = S.left source.new; faults = S.faults source.old; faults_after = S.faults source.new; steady = S.steady source.old })
-        (K.taken sink.old) (K.taken sink.new) result }
+        (K.room sink.old) (K.taken sink.old) (K.taken sink.new) result }
 
     // A fault comes only where the outside failed in this call.
     ensures read_fault { result ≡ Status.ReadFault → Rose (S.faults source.old) (S.faults source.new) }
@@ -35,20 +37,20 @@ pub fn run_cpog<S: Source, K: Sink>(
     // What is left of the input ended it before.
     ensures left { LosesFront (S.left source.old) (S.left source.new) }
 
-    // A steady source and a sink with room don't fail.
+    // A steady source doesn't fail, nor does a sink that has room for the allowed output.
     ensures steady { IsTrue (S.steady source.old) → result ≢ Status.ReadFault }
     ensures quiet_source { IsTrue (S.steady source.old) → S.faults source.new ≡ S.faults source.old }
-    ensures room { HasRoomForAll (map string_bytes words.now)
+    ensures room { result ≡ Status.WriteFault → OutgrowsRoom (map string_bytes words.now)
         (record { left = S.left source.old; left_after = S.left source.new; faults = S.faults source.old; faults_after = S.faults source.new; steady = S.steady source.old })
-        (K.room sink.old) → result ≢ Status.WriteFault }
-    ensures quiet_sink { HasRoomForAll (map string_bytes words.now)
+        (K.room sink.old) }
+    ensures quiet_sink { StaysQuiet (map string_bytes words.now)
         (record { left = S.left source.old; left_after = S.left source.new; faults = S.faults source.old; faults_after = S.faults source.new; steady = S.steady source.old })
-        (K.room sink.old) → K.faults sink.new ≡ K.faults sink.old }
+        (K.room sink.old) (K.faults sink.old) (K.faults sink.new) }
 
     // Where no refusal has a cause and no count rises, it is the whole answer or want of memory.
     ensures complete { (told : List ℕ) → S.left source.old ≡ Some told → IsGoodRun (map string_bytes words.now) told →
         ¬ Rose (S.faults source.old) (S.faults source.new) → ¬ Rose (K.faults sink.old) (K.faults sink.new) →
-        (result ≡ Status.Ok) ⊎ (result ≡ Status.Memory) }
+        IsAnswered (command_of (map string_bytes words.now)) result ⊎ (result ≡ Status.Memory) }
 {
     run(alloc, words, source, sink)
 }
@@ -57,18 +59,18 @@ pub fn run_cpog<S: Source, K: Sink>(
 fn run<S: Source, K: Sink>(alloc: Global, words: &[String], source: &mut S, sink: &mut K) -> Status
     ensures ends { Ends (map string_bytes words.now)
         (record { left = S.left source.old; left_after = S.left source.new; faults = S.faults source.old; faults_after = S.faults source.new; steady = S.steady source.old })
-        (K.taken sink.old) (K.taken sink.new) result }
+        (K.room sink.old) (K.taken sink.old) (K.taken sink.new) result }
     ensures read_fault { result ≡ Status.ReadFault → Rose (S.faults source.old) (S.faults source.new) }
     ensures write_fault { result ≡ Status.WriteFault → Rose (K.faults sink.old) (K.faults sink.new) }
     ensures left { LosesFront (S.left source.old) (S.left source.new) }
     ensures steady { IsTrue (S.steady source.old) → result ≢ Status.ReadFault }
     ensures quiet_source { IsTrue (S.steady source.old) → S.faults source.new ≡ S.faults source.old }
-    ensures room { HasRoomForAll (map string_bytes words.now)
+    ensures room { result ≡ Status.WriteFault → OutgrowsRoom (map string_bytes words.now)
         (record { left = S.left source.old; left_after = S.left source.new; faults = S.faults source.old; faults_after = S.faults source.new; steady = S.steady source.old })
-        (K.room sink.old) → result ≢ Status.WriteFault }
-    ensures quiet_sink { HasRoomForAll (map string_bytes words.now)
+        (K.room sink.old) }
+    ensures quiet_sink { StaysQuiet (map string_bytes words.now)
         (record { left = S.left source.old; left_after = S.left source.new; faults = S.faults source.old; faults_after = S.faults source.new; steady = S.steady source.old })
-        (K.room sink.old) → K.faults sink.new ≡ K.faults sink.old }
+        (K.room sink.old) (K.faults sink.old) (K.faults sink.new) }
 {
     match make_answer(alloc, words, source) {
         Ok(answer) => match write_all(sink, answer.output.as_slice()) {

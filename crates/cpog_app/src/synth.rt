@@ -1,9 +1,10 @@
 //! What `synth` answers to a graph text.
-ghost use Rattle.std.specs.Prelude.{◌≤◌, IfOk, IfErr, length};
+ghost use Rattle.std.specs.Prelude.{◌≡◌, ◌≤◌, IfOk, IfErr, length};
 ghost use Rattle.cpog_app.specs.Answers.{IsSynthAnswer};
 ghost use Rattle.cpog_app.specs.Allowed.{IsGraphTextAnswer};
 ghost use Rattle.cpog_app.specs.Bits.{MayBeAsked};
 ghost use Rattle.cpog_app.specs.Stops.{IsStop};
+ghost use Rattle.cpog_app.specs.Synthesis.{report_status};
 
 use crate::encodable::{CodeLength, encodable_of};
 use crate::graph_text::file_of;
@@ -11,8 +12,18 @@ use crate::stop::{Answer, Stop};
 use crate::synthesis::report_of;
 use crate::words::SynthOptions;
 use cpog_base::{INPUT_LIMIT, Status};
-use report_text::write_report;
+use report_text::{Bound, write_report};
 use std::alloc::Global;
+
+/// The status of a report with this bound: the budget was spent where the bound is to be exact and isn't.
+fn report_status(exact: bool, bound: Bound) -> Status
+    ensures { result ≡ report_status exact bound }
+{
+    match bound {
+        Bound::Between(_, _) if exact => Status::Budget,
+        _ => Status::Ok,
+    }
+}
 
 /// The answer to a graph text: the report of its file.
 pub(crate) fn answer_synth(
@@ -32,9 +43,7 @@ pub(crate) fn answer_synth(
     };
     let encodable = encodable_of(alloc, asked, file)?;
     let report = report_of(alloc, options, encodable)?;
+    let status = report_status(options.exact, report.bound());
     let output = write_report(alloc, &report)?;
-    Ok(Answer {
-        status: Status::Ok,
-        output,
-    })
+    Ok(Answer { status, output })
 }

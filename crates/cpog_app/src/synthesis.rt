@@ -1,26 +1,24 @@
-//! From what scenarios are encoded from to a report: an encoding, its netlist, and the record of all.
-ghost use Rattle.std.specs.Prelude.{◌≡◌, ◌≤◌, ◌^◌, ℕ, List, length, map, IfOk};
-ghost use Rattle.std.specs.List.{All};
-ghost use Rattle.cpog_defs.specs.Codes.{open_patterns};
-ghost use Rattle.cpog_defs.specs.Orders.{Order, IsOrderOf};
-ghost use Rattle.cpog_defs.specs.Encodings.{Encodes};
+//! From what scenarios are encoded from to a report: an encoding with what is known of the least number of gates, its
+//! netlist, and the record of all.
+ghost use Rattle.std.specs.Prelude.{◌≡◌, ◌≤◌, ◌^◌, length, map, IfOk};
+ghost use Rattle.cpog_base.specs.declared.limits.TheConstants.{BUDGET_LIMIT, OPERATION_LIMIT};
 ghost use Rattle.cpog_merge.specs.Columns.{count_of};
-ghost use Rattle.opcode_assign.specs.Assignments.{IsFirstAssignment};
-ghost use Rattle.report_text.specs.Report.{IsBound};
+ghost use Rattle.opcode_assign.specs.Answers.{IsAnswer};
+ghost use Rattle.opcode_assign.specs.Assignments.{CanBeAssigned};
 ghost use Rattle.cpog_app.specs.Bits.{synth_length, MayBeAsked};
 ghost use Rattle.cpog_app.specs.Encodable.{IsEncodable};
 ghost use Rattle.order_reduce.specs.Scenarios.{covering_scenario};
-ghost use Rattle.cpog_app.specs.Synthesis.{free_patterns, IsBoundOf, IsSynthesis};
+ghost use Rattle.cpog_app.specs.Synthesis.{free_patterns, printed_lower, Attains, IsSynthesis};
 
 use crate::encodable::Encodable;
 use crate::words::SynthOptions;
-use cpog_base::{BIT_LIMIT, Memory, OPERATION_LIMIT, SCENARIO_LIMIT, Scenario};
-use gate_core::{Encoding, free_patterns};
+use cpog_base::{BUDGET_LIMIT, Memory, OPERATION_LIMIT, Pattern, Scenario};
+use gate_core::free_patterns;
 use handshake_eqs::equations;
 use netlist_verilog::Module;
-use opcode_assign::{AssignFault, first_assign};
+use opcode_assign::{Answer, AssignFault, assign};
 use order_reduce::{CoveredOrder, covering_scenario};
-use report_text::{Bound, Report};
+use report_text::{Bound, Report, ReportParts};
 use std::alloc::Global;
 
 /// Each scenario with the covering pairs of its order as arcs.
@@ -34,22 +32,24 @@ fn covering_scenarios(alloc: Global, orders: &[CoveredOrder]) -> Result<Vec<Scen
     Ok(scenarios)
 }
 
-/// The first encoding over codes of which no bit is given, where there are enough.
-fn open_assign(alloc: Global, orders: &[CoveredOrder], bits: u8) -> Result<Encoding, Memory>
-    requires some { 1 ≤ length orders.now }
-    requires few { length orders.now ≤ SCENARIO_LIMIT }
-    requires alike { All (IsOrderOf (count_of orders.now)) orders.now }
+/// What a search finds over codes of which no bit is given, where there are enough.
+fn open_assign(
+    alloc: Global,
+    orders: &[CoveredOrder],
+    given: &[Pattern],
+    bits: u8,
+    budget: u32,
+) -> Result<Answer, Memory>
+    requires scenarios { CanBeAssigned orders.now bits }
     requires few_ops { count_of orders.now ≤ OPERATION_LIMIT }
-    requires some_bit { 1 ≤ bits }
-    requires few_bits { bits ≤ BIT_LIMIT }
+    requires given { given.now ≡ free_patterns (length orders.now) bits }
+    requires some_budget { 1 ≤ budget }
+    requires few_budget { budget ≤ BUDGET_LIMIT }
     requires enough { length orders.now ≤ 2 ^ bits }
-    ensures encodes { IfOk result (Encodes (count_of orders.now) orders.now (open_patterns (length orders.now)) bits) }
-    ensures first { IfOk result (IsFirstAssignment (count_of orders.now) orders.now (free_patterns (length orders.now) bits) bits) }
-    ensures few_gates { IfOk result (λ e. length e.gates.gates ≤ 64320) }
+    ensures { IfOk result (IsAnswer orders.now given.now bits budget) }
 {
-    let given = free_patterns(alloc, orders.len(), bits)?;
-    match first_assign(alloc, orders, &given, bits) {
-        Ok(encoding) => Ok(encoding),
+    match assign(alloc, orders, given, bits, budget) {
+        Ok(answer) => Ok(answer),
         Err(AssignFault::Memory) => Err(Memory),
         // There are enough codes, and any of them will do.
         Err(AssignFault::TooFewBits) => unreachable!(),
@@ -57,15 +57,16 @@ fn open_assign(alloc: Global, orders: &[CoveredOrder], bits: u8) -> Result<Encod
     }
 }
 
-/// What is known of the least number of gates without a search: it is 0 where there is no gate.
-fn bound_of(encoding: &Encoding) -> Bound
-    ensures lawful { IsBound (length encoding.now.gates.gates) result }
-    ensures known { (count : ℕ) (orders : List Order) → IsBoundOf count orders encoding.now result }
+/// What is known of the least number of gates, between a lower bound and the number of gates that an encoding has.
+fn bound_of(lower: u32, gates: u32) -> Bound
+    requires { lower ≤ gates }
+    ensures lower { printed_lower result ≡ lower }
+    ensures attained { Attains gates result }
 {
-    if encoding.gates().gates().is_empty() {
-        Bound::Minimum(0)
+    if lower == gates {
+        Bound::Minimum(gates)
     } else {
-        Bound::Unknown
+        Bound::Between(lower, gates)
     }
 }
 
@@ -81,22 +82,34 @@ pub(crate) fn report_of(
 {
     let Encodable {
         file,
-        names,
+        names: scenario_names,
         orders,
         bits,
     } = encodable;
+    let budget = options.budget;
     let scenarios = covering_scenarios(alloc, &orders)?;
-    let encoding = open_assign(alloc, &orders, bits)?;
-    let bound = bound_of(&encoding);
+    let given = free_patterns(alloc, orders.as_slice().len(), bits)?;
+    let Answer {
+        encoding,
+        lo,
+        evidence,
+        open_part,
+    } = open_assign(alloc, &orders, &given, bits, budget)?;
+    let bound = bound_of(lo, encoding.gates().gates().len() as u32);
     let netlist = equations(alloc, &encoding)?;
-    let design = Module::new(file.into_operations(), netlist);
-    Ok(Report::new(
+    let names = file.into_operations();
+    let design = Module::new(names.try_clone(alloc)?, netlist);
+    Ok(Report::new(ReportParts {
         bits,
-        options.budget,
+        budget,
         names,
+        scenario_names,
+        given,
         scenarios,
         encoding,
         bound,
+        evidence,
+        open_part,
         design,
-    ))
+    }))
 }

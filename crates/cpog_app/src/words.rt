@@ -1,5 +1,5 @@
 //! The words of the command line. A command stands first, its number behind it, and then its options in any order, each at
-//! most once and with its value as the next word.
+//! most once. The word `--exact` is an option, and each other option is a name with its value as the next word.
 ghost use Rattle.std.specs.Prelude.{◌≡◌, ◌<◌, ◌≤◌, map, option_and_then};
 ghost use Rattle.std.specs.String.{string_bytes};
 ghost use Rattle.cpog_app.specs.Words.{number_within, bits_in, budget_in, option_in, joined, options_in, synth_of, cnf_of, solve_of, command_of};
@@ -22,6 +22,8 @@ pub struct SynthOptions {
     pub bits: Option<u8>,
     /// How many numbers the search may write to a log, from 1 to 8388608.
     pub budget: u32,
+    /// Whether a report whose bound is open ends with a status of its own.
+    pub exact: bool,
 }
 
 /// Which formula is to be made.
@@ -40,6 +42,8 @@ pub struct SaidOptions {
     pub bits: Option<u8>,
     /// How many numbers a search may write to a log, from 1 to 8388608.
     pub budget: Option<u32>,
+    /// Whether an open bound is to have a status of its own.
+    pub exact: bool,
 }
 
 /// What the words of the command line ask for.
@@ -94,14 +98,14 @@ fn option_in(name: &str, value: &str) -> Option<SaidOptions>
         let bits = bits_in(value)?;
         return Some(SaidOptions {
             bits: Some(bits),
-            budget: None,
+            ..SaidOptions::NONE
         });
     }
     if name == "--budget" {
         let budget = budget_in(value)?;
         return Some(SaidOptions {
-            bits: None,
             budget: Some(budget),
+            ..SaidOptions::NONE
         });
     }
     None
@@ -112,6 +116,14 @@ impl SaidOptions {
     const NONE: SaidOptions = SaidOptions {
         bits: None,
         budget: None,
+        exact: false,
+    };
+
+    /// The option `--exact` alone.
+    const EXACT: SaidOptions = SaidOptions {
+        bits: None,
+        budget: None,
+        exact: true,
     };
 
     /// These and others, where they don't both say one option.
@@ -128,7 +140,15 @@ impl SaidOptions {
             (budget, None) => budget,
             (Some(_), Some(_)) => return None,
         };
-        Some(SaidOptions { bits, budget })
+        if self.exact && other.exact {
+            return None;
+        }
+        let exact = self.exact || other.exact;
+        Some(SaidOptions {
+            bits,
+            budget,
+            exact,
+        })
     }
 }
 
@@ -138,6 +158,10 @@ fn options_after(said: SaidOptions, words: &[String]) -> Option<SaidOptions>
 {
     match words {
         [] => Some(said),
+        [word, rest @ ..] if word.as_str() == "--exact" => {
+            let both = said.joined(SaidOptions::EXACT)?;
+            options_after(both, rest)
+        }
         [name, value, rest @ ..] => {
             let one = option_in(name.as_str(), value.as_str())?;
             let both = said.joined(one)?;
@@ -147,26 +171,25 @@ fn options_after(said: SaidOptions, words: &[String]) -> Option<SaidOptions>
     }
 }
 
-/// The command `synth` with these options, which say no budget.
-fn synth_of(said: SaidOptions) -> Option<Command>
+/// The command `synth` with these options.
+fn synth_of(said: SaidOptions) -> Command
     ensures { result ≡ synth_of said }
 {
-    match said.budget {
-        None => {
-            let options = SynthOptions {
-                bits: said.bits,
-                budget: DEFAULT_BUDGET,
-            };
-            Some(Command::Synth { options })
-        }
-        Some(_) => None,
-    }
+    let options = SynthOptions {
+        bits: said.bits,
+        budget: said.budget.unwrap_or(DEFAULT_BUDGET),
+        exact: said.exact,
+    };
+    Command::Synth { options }
 }
 
-/// The command `cnf` over so many gates with these options: codes have two bits at least, and no budget is said.
+/// The command `cnf` over so many gates with these options: codes have two bits at least, and nothing else is said.
 fn cnf_of(gates: u32, said: SaidOptions) -> Option<Command>
     ensures { result ≡ cnf_of gates said }
 {
+    if said.exact {
+        return None;
+    }
     match said.budget {
         None => {}
         Some(_) => return None,
@@ -181,10 +204,13 @@ fn cnf_of(gates: u32, said: SaidOptions) -> Option<Command>
     Some(Command::Cnf { options })
 }
 
-/// The command `solve` with these options, which say no bits.
+/// The command `solve` with these options, which say a budget at most.
 fn solve_of(said: SaidOptions) -> Option<Command>
     ensures { result ≡ solve_of said }
 {
+    if said.exact {
+        return None;
+    }
     match said.bits {
         None => {
             let budget = said.budget.unwrap_or(DEFAULT_BUDGET);
@@ -203,7 +229,7 @@ pub fn read_words(words: &[String]) -> Option<Command>
         [word] if word.as_str() == "lrat" => Some(Command::Lrat),
         [word, options @ ..] if word.as_str() == "synth" => {
             let said = options_after(SaidOptions::NONE, options)?;
-            synth_of(said)
+            Some(synth_of(said))
         }
         [word, gates, options @ ..] if word.as_str() == "cnf" => {
             let gates = number_within(gates.as_str(), 0, CNF_GATE_LIMIT)?;

@@ -9,7 +9,7 @@ const USAGE: &[u8] =
 
 #[test]
 fn other_words_print_the_usage_line(rt: HostRuntime) -> Result<(), Fail> {
-    let table: [&[&str]; 28] = [
+    let table: [&[&str]; 35] = [
         &[],
         &["help"],
         &["Synth"],
@@ -26,7 +26,14 @@ fn other_words_print_the_usage_line(rt: HostRuntime) -> Result<(), Fail> {
         &["normal", "--bits", "2"],
         &["normal", "x"],
         &["Normal"],
-        &["synth", "--budget", "5"],
+        &["synth", "--budget", "0"],
+        &["synth", "--budget", "8388609"],
+        &["synth", "--exact", "1"],
+        &["synth", "--exact", "--exact"],
+        &["synth", "--exact", "--bits"],
+        &["synth", "--exactly"],
+        &["cnf", "1", "--exact"],
+        &["solve", "--exact"],
         &["cnf"],
         &["cnf", "4097"],
         &["cnf", "04"],

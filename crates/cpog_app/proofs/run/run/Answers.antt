@@ -13,7 +13,7 @@ returns-in-Ok-write_all-clause-ends g c =
       faults_after = g.S.Source.faults c.make_answer.new.source;
       steady = g.S.Source.steady c.args.source.now;
     } in
-    ends_printed (map string_bytes c.args.words.now) input (g.K.Sink.taken c.args.sink.now) (g.K.Sink.taken c.write_all.new.sink) c.in-Ok.answer.status c.as_slice.result.now
+    ends_printed (map string_bytes c.args.words.now) input (g.K.Sink.room c.args.sink.now) (g.K.Sink.taken c.args.sink.now) (g.K.Sink.taken c.write_all.new.sink) c.in-Ok.answer.status c.as_slice.result.now
     (subst (λ output. IsAllowed (map string_bytes c.args.words.now) input c.in-Ok.answer.status output) (sym c.as_slice.ensures.value) c.in-Ok.ensures.allowed)
     c.in-Ok-write_all.ensures.ok
 
@@ -27,4 +27,4 @@ pub returns-in-Ok-write_all-clause-steady : goal.returns-in-Ok-write_all-clause-
 returns-in-Ok-write_all-clause-steady g c = λ steady e. (read_fault_is (map string_bytes c.args.words.now) _ c.in-Ok.answer.status c.in-Ok.answer.output.items c.in-Ok.ensures.allowed e).unsteady steady
 
 pub returns-in-Ok-write_all-clause-room : goal.returns-in-Ok-write_all-clause-room
-returns-in-Ok-write_all-clause-room g c = λ room. no_write_fault (map string_bytes c.args.words.now) _ c.in-Ok.answer.status c.in-Ok.answer.output.items c.in-Ok.ensures.allowed
+returns-in-Ok-write_all-clause-room g c = λ e. absurd (no_write_fault (map string_bytes c.args.words.now) _ c.in-Ok.answer.status c.in-Ok.answer.output.items c.in-Ok.ensures.allowed e)

@@ -1,11 +1,11 @@
-use Rattle.std.proofs.Common.{refl, subst, inl, inr}
+use Rattle.std.proofs.Common.{subst, inl, inr}
 use Rattle.std.proofs.lemmas.Result.{err_from_is_err_and}
 use Rattle.cpog_app.specs.Allowed.{IsGraphTextAnswer}
 use Rattle.cpog_app.specs.Answers.{IsSynthAnswer}
 use Rattle.cpog_app.specs.Bits.{synth_length}
 use Rattle.cpog_app.specs.Refusals.{IsEncodingRefusal}
 use Rattle.cpog_app.specs.Synthesis.{IsSynthesis}
-use Rattle.cpog_app.proofs.PrintedLemmas.{report_answers}
+use Rattle.cpog_app.proofs.PrintedLemmas.{synth_answers}
 use Rattle.cpog_app.proofs.RefusalLemmas.{stop_map}
 use Rattle.cpog_app.proofs.synth.answer_synth.Goals as goal
 
@@ -24,5 +24,6 @@ returns-in_err-output-clause-err c =
 pub returns-clause-ok : goal.returns-clause-ok
 returns-clause-ok c =
     let f = c.in_ok-file.file in
-    let synthesis : IsSynthesis c.args.options f c.in_ok-report.report = subst (λ file. IsSynthesis c.args.options file c.in_ok-report.report) c.in_ok-encodable.ensures.ok.file c.in_ok-report.ensures in
-    inr (record { file = f; is_file = c.in_ok-file.ensures.ok; answer = inr (refl, report_answers c.args.options f c.in_ok-report.report c.in_ok-output.output.items synthesis c.in_ok-output.ensures) })
+    let r = c.in_ok-report.report in
+    let synthesis : IsSynthesis c.args.options f r = subst (λ file. IsSynthesis c.args.options file r) c.in_ok-encodable.ensures.ok.file c.in_ok-report.ensures in
+    inr (record { file = f; is_file = c.in_ok-file.ensures.ok; answer = rw (c.report_status-status.ensures, c.bound.ensures) (synth_answers c.args.options f r c.in_ok-output.output.items synthesis c.in_ok-output.ensures.fits c.in_ok-output.ensures.text) })
