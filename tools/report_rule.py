@@ -10,7 +10,7 @@ from functools import cached_property
 from typing import Callable, Iterator, NamedTuple
 
 from questions import Clause, Column, Order, Template, classes_of, closure
-from steps import Addition, Deletion, Step, after, broken_hint, is_lawful, live_clauses, read_step, spent
+from steps import Addition, Deletion, Step, after, broken_hint, is_lawful, live_clauses, old_line, read_step, spent
 
 NAME = re.compile(r"[A-Za-z_][A-Za-z0-9_]{0,31}")
 KEYWORDS = {"params", "graph", "scenario", "with", "empty", "code"}
@@ -591,52 +591,18 @@ def greedy_number(report: Report) -> int:
     return len(taken)
 
 
-def is_new(known: list[frozenset[int]], line: Clause) -> bool:
-    """For some literal of the line, propagation from the complements of the others gives it no value and fails nowhere."""
-    return any(is_new_by(known, [-literal for literal in line if literal != x], x) for x in line)
-
-
-def is_new_by(known: list[frozenset[int]], start: list[int], x: int) -> bool:
-    """Propagation from these literals gives x no value, and leaves no clause false."""
-    true, waiting = set(), list(start)
-    where: dict[int, list[frozenset[int]]] = {}
-    for clause in known:
-        for literal in clause:
-            where.setdefault(literal, []).append(clause)
-        if len(clause) < 2:
-            waiting += clause
-            if not clause:
-                return False
-    while waiting:
-        literal = waiting.pop()
-        if literal in true:
-            continue
-        if -literal in true:
-            return False
-        true.add(literal)
-        for clause in where.get(-literal, []):
-            left = [other for other in clause if -other not in true]
-            if not left:
-                return False
-            if len(left) == 1:
-                waiting.append(left[0])
-    return x not in true and -x not in true
-
-
 def progress_fault(report: Report) -> str:
     """What is wrong with an open log as one that a search leaves: its lines are new, and it ends where it is spent."""
     log = report.open_part
     if log is None or log.steps is None:
         return ""
-    known = list(map(frozenset, report.template(log.kind, log.gates).clauses(report.classes)))
     for place, step in enumerate(log.steps, 1):
         if isinstance(step, Deletion) or not step.literals or len(set(map(abs, step.literals))) < len(step.literals):
             return f"line {place} is a deletion, empty, or holds a variable twice"
-        if not is_new(known, step.literals):
-            return f"line {place} is not new to propagation"
-        known.append(frozenset(step.literals))
-    numbers = sum(map(spent, log.steps))
-    is_spent = numbers - spent(log.steps[-1]) < report.budget if log.steps else False
+    old = old_line(list(report.template(log.kind, log.gates).clauses(report.classes)), log.steps)
+    if old is not None:
+        return f"the clause {old} is not new to propagation"
+    is_spent = sum(map(spent, log.steps[:-1])) < report.budget
     return "" if is_spent else "the log goes on behind the budget"
 
 

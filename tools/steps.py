@@ -98,3 +98,66 @@ def after(live: Live, step: Step) -> None:
     else:
         for clause in step.ids:
             live.pop(clause, None)
+
+
+# ---- what propagation knows already
+
+class Known:
+    """Clauses by which unit propagation goes."""
+
+    def __init__(self, clauses: list[list[int]]) -> None:
+        self.clauses: list[frozenset[int]] = []
+        self.units: list[int] = []
+        self.holders: dict[int, list[int]] = {}
+        self.has_empty = False
+        for clause in clauses:
+            self.add(clause)
+
+    def add(self, clause: list[int]) -> None:
+        """One clause more."""
+        literals = frozenset(clause)
+        for literal in literals:
+            self.holders.setdefault(literal, []).append(len(self.clauses))
+        if len(literals) == 1:
+            self.units += literals
+        self.has_empty = self.has_empty or not literals
+        self.clauses.append(literals)
+
+    def propagated(self, start: list[int]) -> set[int] | None:
+        """What unit propagation makes true from these literals; nothing where a clause is false throughout."""
+        if self.has_empty:
+            return None
+        true: set[int] = set()
+        waiting = [*start, *self.units]
+        while waiting:
+            literal = waiting.pop()
+            if -literal in true:
+                return None
+            if literal in true:
+                continue
+            true.add(literal)
+            for place in self.holders.get(-literal, []):
+                left = [other for other in self.clauses[place] if -other not in true]
+                if not left:
+                    return None
+                if len(left) == 1:
+                    waiting += left
+        return true
+
+    def is_new(self, clause: list[int]) -> bool:
+        """From the complements of all its literals but one, propagation fails nowhere and gives that one no value."""
+        for literal in clause:
+            true = self.propagated([-other for other in clause if other != literal])
+            if true is not None and true.isdisjoint((literal, -literal)):
+                return True
+        return False
+
+
+def old_line(formula: list[list[int]], additions: list[Addition]) -> int | None:
+    """The id of the first addition that tells unit propagation nothing new; nothing where there is none."""
+    known = Known(formula)
+    for addition in additions:
+        if not known.is_new(addition.literals):
+            return addition.id
+        known.add(addition.literals)
+    return None
