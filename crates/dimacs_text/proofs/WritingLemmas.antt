@@ -206,7 +206,7 @@ cnf_spelled comment text v cs e plain lv ln h =
 
 -- ---- the lines of a log
 
-are_ids : (is : List ℕ) → ArePositive is → AllByRecursion (λ n. n < 4294967296) is → AreIds is
+pub are_ids : (is : List ℕ) → ArePositive is → AllByRecursion (λ n. n < 4294967296) is → AreIds is
 are_ids [] p f = tt
 are_ids (n ∷ is) p f = ((p.0, f.0), are_ids is p.1 f.1)
 

@@ -1,5 +1,5 @@
 -- The lines of what is known tell it: the bound, what shows it, and what is left open.
-use Rattle.std.proofs.Common.{◌≡◌, ℕ, ◌<◌, ◌≤◌, ◌^◌, List, [], ◌∷◌, ◌++◌, map, length, refl, sym, ap, ap₂, ◌∙◌, arith, append_assoc}
+use Rattle.std.proofs.Common.{◌≡◌, ℕ, ◌<◌, ◌≤◌, ◌^◌, List, [], ◌∷◌, ◌++◌, map, length, refl, sym, ap, ap₂, ◌∙◌, subst, arith, append_assoc}
 use Rattle.std.specs.Prelude.{codes}
 use Rattle.std.specs.List.{AllByRecursion, flat_map}
 use Rattle.std.specs.Fmt.{decimal}
@@ -21,10 +21,11 @@ use Rattle.netlist_verilog.proofs.FeedLemmas.{name_passes}
 use Rattle.netlist_verilog.proofs.WordLemmas.{name_is}
 use Rattle.report_text.specs.declared.bound.Bound.{Bound}
 use Rattle.report_text.specs.declared.bound.Bound.TheVariants.{Minimum, Between}
-use Rattle.report_text.specs.Report.{IsBound, IsReportEvidence, IsReportOpen, EvidenceFits, OpenFits}
-use Rattle.report_text.specs.Rows.{bound_row, template_number, template_text, place_row, closed_log, evidence_lines, open_lines}
+use Rattle.report_text.specs.Report.{IsBound, IsReportEvidence, IsReportOpen}
+use Rattle.report_text.specs.Rows.{bound_row, template_number, template_text, place_row}
+use Rattle.report_text.specs.Spelling.{SpellsEvidence, SpellsOpen}
 use Rattle.report_text.proofs.RowLemmas.{lines_differ, name_step, IsAfterArcs}
-use Rattle.report_text.proofs.LogLemmas.{log_told}
+use Rattle.report_text.proofs.SpellingLemmas.{in_forms, log_told}
 
 -- ---- the bound
 
@@ -123,48 +124,48 @@ places_told names ps qs x y distinct pass hp hq ex ey e =
 places_by : (n : ℕ) (ps : List Place) → IsReportEvidence n 0 (EvidenceValue.Count ps) → AllByRecursion (IsPlace n) ps
 places_by n ps h = recursion_from_All (IsPlace n) ps h
 
-pub evidence_told : (limit : ℕ) (names : List (List ℕ)) (a b : EvidenceValue) (x y : List ℕ) → limit ≤ 2 ^ 64 → AreDistinct names → AllByRecursion (AllPass continues_name) names
-    → IsReportEvidence (length names) limit a → IsReportEvidence (length names) limit b → EvidenceFits a → EvidenceFits b → IsAfterEvidence x → IsAfterEvidence y
-    → text_of (evidence_lines names a) ++ x ≡ text_of (evidence_lines names b) ++ y → (a ≡ b) × (x ≡ y)
-evidence_told limit names EvidenceValue.Zero EvidenceValue.Zero x y fit distinct pass ha hb fa fb ex ey e = (refl, append_cancel_left (codes "evidence zero\n") _ _ e)
-evidence_told limit names EvidenceValue.Zero (EvidenceValue.Count qs) x y fit distinct pass ha hb fa fb ex ey e = absurd (omega (arith, heads 122 99 _ _ (append_cancel_left (codes "evidence ") _ _ e)))
-evidence_told limit names EvidenceValue.Zero (EvidenceValue.Refutation u h ms) x y fit distinct pass ha hb fa fb ex ey e = absurd (omega (arith, heads 122 114 _ _ (append_cancel_left (codes "evidence ") _ _ e)))
-evidence_told limit names (EvidenceValue.Count ps) EvidenceValue.Zero x y fit distinct pass ha hb fa fb ex ey e = absurd (omega (arith, heads 99 122 _ _ (append_cancel_left (codes "evidence ") _ _ e)))
-evidence_told limit names (EvidenceValue.Count ps) (EvidenceValue.Count qs) x y fit distinct pass ha hb fa fb ex ey e =
-    let r = places_told names ps qs x y distinct pass (places_by (length names) ps ha) (places_by (length names) qs hb) ex ey (append_cancel_left (codes "evidence count\n") _ _ e) in
+pub evidence_told : (limit : ℕ) (names : List (List ℕ)) (a b : EvidenceValue) (la lb : List (List ℕ)) (x y : List ℕ) → limit ≤ 2 ^ 64 → AreDistinct names → AllByRecursion (AllPass continues_name) names
+    → IsReportEvidence (length names) limit a → IsReportEvidence (length names) limit b → SpellsEvidence names a la → SpellsEvidence names b lb → IsAfterEvidence x → IsAfterEvidence y
+    → text_of la ++ x ≡ text_of lb ++ y → (a ≡ b) × (x ≡ y)
+evidence_told limit names EvidenceValue.Zero EvidenceValue.Zero la lb x y fit distinct pass ha hb sa sb ex ey e = (refl, append_cancel_left (codes "evidence zero\n") _ _ (in_forms la (codes "evidence zero" ∷ []) lb (codes "evidence zero" ∷ []) x y sa sb e))
+evidence_told limit names EvidenceValue.Zero (EvidenceValue.Count qs) la lb x y fit distinct pass ha hb sa sb ex ey e = absurd (omega (arith, heads 122 99 _ _ (append_cancel_left (codes "evidence ") _ _ (in_forms la (codes "evidence zero" ∷ []) lb (codes "evidence count" ∷ map (place_row names) qs) x y sa sb e))))
+evidence_told limit names EvidenceValue.Zero (EvidenceValue.Refutation u h ms) la lb x y fit distinct pass ha hb sa sb ex ey e = absurd (omega (arith, heads 122 114 _ _ (append_cancel_left (codes "evidence ") _ _ (in_forms la (codes "evidence zero" ∷ []) lb ((codes "evidence refutation " ++ template_text u h) ∷ sb.0) x y sa sb.1 e))))
+evidence_told limit names (EvidenceValue.Count ps) EvidenceValue.Zero la lb x y fit distinct pass ha hb sa sb ex ey e = absurd (omega (arith, heads 99 122 _ _ (append_cancel_left (codes "evidence ") _ _ (in_forms la (codes "evidence count" ∷ map (place_row names) ps) lb (codes "evidence zero" ∷ []) x y sa sb e))))
+evidence_told limit names (EvidenceValue.Count ps) (EvidenceValue.Count qs) la lb x y fit distinct pass ha hb sa sb ex ey e =
+    let r = places_told names ps qs x y distinct pass (places_by (length names) ps ha) (places_by (length names) qs hb) ex ey (append_cancel_left (codes "evidence count\n") _ _ (in_forms la (codes "evidence count" ∷ map (place_row names) ps) lb (codes "evidence count" ∷ map (place_row names) qs) x y sa sb e)) in
     (ap (λ z. EvidenceValue.Count z) r.0, r.1)
-evidence_told limit names (EvidenceValue.Count ps) (EvidenceValue.Refutation u h ms) x y fit distinct pass ha hb fa fb ex ey e = absurd (omega (arith, heads 99 114 _ _ (append_cancel_left (codes "evidence ") _ _ e)))
-evidence_told limit names (EvidenceValue.Refutation t g ls) EvidenceValue.Zero x y fit distinct pass ha hb fa fb ex ey e = absurd (omega (arith, heads 114 122 _ _ (append_cancel_left (codes "evidence ") _ _ e)))
-evidence_told limit names (EvidenceValue.Refutation t g ls) (EvidenceValue.Count qs) x y fit distinct pass ha hb fa fb ex ey e = absurd (omega (arith, heads 114 99 _ _ (append_cancel_left (codes "evidence ") _ _ e)))
-evidence_told limit names (EvidenceValue.Refutation t g ls) (EvidenceValue.Refutation u h ms) x y fit distinct pass ha hb fa fb ex ey e =
-    let line = lines_differ (codes "evidence refutation " ++ template_text t g) (codes "evidence refutation " ++ template_text u h) (closed_log ls) (closed_log ms) x y e in
-    let r = template_told t u g h (text_of (closed_log ls) ++ x) (text_of (closed_log ms) ++ y) (omega (arith, fit, ha.0)) (omega (arith, fit, hb.0)) (append_cancel_left (codes "evidence refutation ") _ _ line) in
-    let s = log_told ls ms x y (ha.1, fa) (hb.1, fb) r.1 in
+evidence_told limit names (EvidenceValue.Count ps) (EvidenceValue.Refutation u h ms) la lb x y fit distinct pass ha hb sa sb ex ey e = absurd (omega (arith, heads 99 114 _ _ (append_cancel_left (codes "evidence ") _ _ (in_forms la (codes "evidence count" ∷ map (place_row names) ps) lb ((codes "evidence refutation " ++ template_text u h) ∷ sb.0) x y sa sb.1 e))))
+evidence_told limit names (EvidenceValue.Refutation t g ls) EvidenceValue.Zero la lb x y fit distinct pass ha hb sa sb ex ey e = absurd (omega (arith, heads 114 122 _ _ (append_cancel_left (codes "evidence ") _ _ (in_forms la ((codes "evidence refutation " ++ template_text t g) ∷ sa.0) lb (codes "evidence zero" ∷ []) x y sa.1 sb e))))
+evidence_told limit names (EvidenceValue.Refutation t g ls) (EvidenceValue.Count qs) la lb x y fit distinct pass ha hb sa sb ex ey e = absurd (omega (arith, heads 114 99 _ _ (append_cancel_left (codes "evidence ") _ _ (in_forms la ((codes "evidence refutation " ++ template_text t g) ∷ sa.0) lb (codes "evidence count" ∷ map (place_row names) qs) x y sa.1 sb e))))
+evidence_told limit names (EvidenceValue.Refutation t g ls) (EvidenceValue.Refutation u h ms) la lb x y fit distinct pass ha hb sa sb ex ey e =
+    let line = lines_differ (codes "evidence refutation " ++ template_text t g) (codes "evidence refutation " ++ template_text u h) sa.0 sb.0 x y (in_forms la ((codes "evidence refutation " ++ template_text t g) ∷ sa.0) lb ((codes "evidence refutation " ++ template_text u h) ∷ sb.0) x y sa.1 sb.1 e) in
+    let r = template_told t u g h (text_of sa.0 ++ x) (text_of sb.0 ++ y) (omega (arith, fit, ha.0)) (omega (arith, fit, hb.0)) (append_cancel_left (codes "evidence refutation ") _ _ line) in
+    let s = log_told sa.0 sb.0 ls ms x y sa.2 sb.2 r.1 in
     ((λ i. EvidenceValue.Refutation (r.0.0 i) (r.0.1 i) (s.0 i)), s.1)
 
 -- ---- what is left open
 
 -- what follows the evidence
-pub open_after : (o : OpenValue) (x : List ℕ) → IsAfterEvidence (text_of (open_lines o) ++ x)
-open_after OpenValue.Closed x = (_, refl)
-open_after (OpenValue.Log t g ls) x = (_, refl)
-open_after (OpenValue.Size t g) x = (_, refl)
+pub open_after : (o : OpenValue) (lines : List (List ℕ)) (x : List ℕ) → SpellsOpen o lines → IsAfterEvidence (text_of lines ++ x)
+open_after OpenValue.Closed lines x h = subst (λ (z : List (List ℕ)). IsAfterEvidence (text_of z ++ x)) (sym h) (_, refl)
+open_after (OpenValue.Log t g ls) lines x h = subst (λ (z : List (List ℕ)). IsAfterEvidence (text_of z ++ x)) (sym h.1) (_, refl)
+open_after (OpenValue.Size t g) lines x h = subst (λ (z : List (List ℕ)). IsAfterEvidence (text_of z ++ x)) (sym h) (_, refl)
 
-pub open_told : (limit : ℕ) (a b : OpenValue) (x y : List ℕ) → limit ≤ 2 ^ 64 → IsReportOpen limit a → IsReportOpen limit b → OpenFits a → OpenFits b
-    → text_of (open_lines a) ++ x ≡ text_of (open_lines b) ++ y → (a ≡ b) × (x ≡ y)
-open_told limit OpenValue.Closed OpenValue.Closed x y fit ha hb fa fb e = (refl, append_cancel_left (codes "open none\n") _ _ e)
-open_told limit OpenValue.Closed (OpenValue.Log u h ms) x y fit ha hb fa fb e = absurd (omega (arith, heads 110 108 _ _ (append_cancel_left (codes "open ") _ _ e)))
-open_told limit OpenValue.Closed (OpenValue.Size u h) x y fit ha hb fa fb e = absurd (omega (arith, heads 110 115 _ _ (append_cancel_left (codes "open ") _ _ e)))
-open_told limit (OpenValue.Log t g ls) OpenValue.Closed x y fit ha hb fa fb e = absurd (omega (arith, heads 108 110 _ _ (append_cancel_left (codes "open ") _ _ e)))
-open_told limit (OpenValue.Log t g ls) (OpenValue.Log u h ms) x y fit ha hb fa fb e =
-    let line = lines_differ (codes "open log " ++ template_text t g) (codes "open log " ++ template_text u h) (closed_log ls) (closed_log ms) x y e in
-    let r = template_told t u g h (text_of (closed_log ls) ++ x) (text_of (closed_log ms) ++ y) (omega (arith, fit, ha.0)) (omega (arith, fit, hb.0)) (append_cancel_left (codes "open log ") _ _ line) in
-    let s = log_told ls ms x y (ha.1, fa) (hb.1, fb) r.1 in
+pub open_told : (limit : ℕ) (a b : OpenValue) (la lb : List (List ℕ)) (x y : List ℕ) → limit ≤ 2 ^ 64 → IsReportOpen limit a → IsReportOpen limit b → SpellsOpen a la → SpellsOpen b lb
+    → text_of la ++ x ≡ text_of lb ++ y → (a ≡ b) × (x ≡ y)
+open_told limit OpenValue.Closed OpenValue.Closed la lb x y fit ha hb sa sb e = (refl, append_cancel_left (codes "open none\n") _ _ (in_forms la (codes "open none" ∷ []) lb (codes "open none" ∷ []) x y sa sb e))
+open_told limit OpenValue.Closed (OpenValue.Log u h ms) la lb x y fit ha hb sa sb e = absurd (omega (arith, heads 110 108 _ _ (append_cancel_left (codes "open ") _ _ (in_forms la (codes "open none" ∷ []) lb ((codes "open log " ++ template_text u h) ∷ sb.0) x y sa sb.1 e))))
+open_told limit OpenValue.Closed (OpenValue.Size u h) la lb x y fit ha hb sa sb e = absurd (omega (arith, heads 110 115 _ _ (append_cancel_left (codes "open ") _ _ (in_forms la (codes "open none" ∷ []) lb ((codes "open size " ++ template_text u h) ∷ []) x y sa sb e))))
+open_told limit (OpenValue.Log t g ls) OpenValue.Closed la lb x y fit ha hb sa sb e = absurd (omega (arith, heads 108 110 _ _ (append_cancel_left (codes "open ") _ _ (in_forms la ((codes "open log " ++ template_text t g) ∷ sa.0) lb (codes "open none" ∷ []) x y sa.1 sb e))))
+open_told limit (OpenValue.Log t g ls) (OpenValue.Log u h ms) la lb x y fit ha hb sa sb e =
+    let line = lines_differ (codes "open log " ++ template_text t g) (codes "open log " ++ template_text u h) sa.0 sb.0 x y (in_forms la ((codes "open log " ++ template_text t g) ∷ sa.0) lb ((codes "open log " ++ template_text u h) ∷ sb.0) x y sa.1 sb.1 e) in
+    let r = template_told t u g h (text_of sa.0 ++ x) (text_of sb.0 ++ y) (omega (arith, fit, ha.0)) (omega (arith, fit, hb.0)) (append_cancel_left (codes "open log ") _ _ line) in
+    let s = log_told sa.0 sb.0 ls ms x y sa.2 sb.2 r.1 in
     ((λ i. OpenValue.Log (r.0.0 i) (r.0.1 i) (s.0 i)), s.1)
-open_told limit (OpenValue.Log t g ls) (OpenValue.Size u h) x y fit ha hb fa fb e = absurd (omega (arith, heads 108 115 _ _ (append_cancel_left (codes "open ") _ _ e)))
-open_told limit (OpenValue.Size t g) OpenValue.Closed x y fit ha hb fa fb e = absurd (omega (arith, heads 115 110 _ _ (append_cancel_left (codes "open ") _ _ e)))
-open_told limit (OpenValue.Size t g) (OpenValue.Log u h ms) x y fit ha hb fa fb e = absurd (omega (arith, heads 115 108 _ _ (append_cancel_left (codes "open ") _ _ e)))
-open_told limit (OpenValue.Size t g) (OpenValue.Size u h) x y fit ha hb fa fb e =
-    let line = lines_differ (codes "open size " ++ template_text t g) (codes "open size " ++ template_text u h) [] [] x y e in
+open_told limit (OpenValue.Log t g ls) (OpenValue.Size u h) la lb x y fit ha hb sa sb e = absurd (omega (arith, heads 108 115 _ _ (append_cancel_left (codes "open ") _ _ (in_forms la ((codes "open log " ++ template_text t g) ∷ sa.0) lb ((codes "open size " ++ template_text u h) ∷ []) x y sa.1 sb e))))
+open_told limit (OpenValue.Size t g) OpenValue.Closed la lb x y fit ha hb sa sb e = absurd (omega (arith, heads 115 110 _ _ (append_cancel_left (codes "open ") _ _ (in_forms la ((codes "open size " ++ template_text t g) ∷ []) lb (codes "open none" ∷ []) x y sa sb e))))
+open_told limit (OpenValue.Size t g) (OpenValue.Log u h ms) la lb x y fit ha hb sa sb e = absurd (omega (arith, heads 115 108 _ _ (append_cancel_left (codes "open ") _ _ (in_forms la ((codes "open size " ++ template_text t g) ∷ []) lb ((codes "open log " ++ template_text u h) ∷ sb.0) x y sa sb.1 e))))
+open_told limit (OpenValue.Size t g) (OpenValue.Size u h) la lb x y fit ha hb sa sb e =
+    let line = lines_differ (codes "open size " ++ template_text t g) (codes "open size " ++ template_text u h) [] [] x y (in_forms la ((codes "open size " ++ template_text t g) ∷ []) lb ((codes "open size " ++ template_text u h) ∷ []) x y sa sb e) in
     let r = template_told t u g h x y (omega (arith, fit, ha)) (omega (arith, fit, hb)) (append_cancel_left (codes "open size ") _ _ line) in
     ((λ i. OpenValue.Size (r.0.0 i) (r.0.1 i)), r.1)

@@ -9,3 +9,4 @@ pub mod KnownLemmas
 pub mod LawLemmas
 pub mod FrontLemmas
 pub mod ModuleLemmas
+pub mod SpellingLemmas

@@ -1,10 +1,10 @@
 -- The lines of a log: each begins with a digit and holds no line feed, so they are told up to the line `end`, and tell the log.
-use Rattle.std.proofs.Common.{◌≡◌, ◌≢◌, ℕ, ◌<◌, ◌^◌, not, List, [], ◌∷◌, ◌++◌, length, refl, sym, ap, ap₂, ◌∙◌, subst, arith, append_assoc}
+use Rattle.std.proofs.Common.{◌≡◌, ◌≢◌, ℕ, ◌<◌, ◌^◌, not, List, [], ◌∷◌, ◌++◌, length, refl, sym, ap, ap₂, ◌∙◌, arith, append_assoc}
 use Rattle.std.specs.Prelude.{codes, map}
 use Rattle.std.specs.List.{AllByRecursion}
 use Rattle.std.specs.Fmt.{decimal}
 use Rattle.std.proofs.lemmas.Bool.{ne_eqb}
-use Rattle.std.proofs.lemmas.List.{append-nil, append_cancel_left}
+use Rattle.std.proofs.lemmas.List.{append-nil}
 use Rattle.std.proofs.lemmas.Fmt.{decimal_nonempty}
 use Rattle.cpog_base.specs.declared.limits.TheConstants.{VARIABLE_LIMIT}
 use Rattle.line_text.specs.Lines.{text_of}
@@ -16,15 +16,12 @@ use Rattle.text_rows.proofs.PlainLemmas.{digit_in}
 use Rattle.text_rows.proofs.WritingLemmas.{spaced_unbroken}
 use Rattle.proof_check.specs.Lines.{Line}
 use Rattle.clause_arena.specs.Clauses.{Clause}
-use Rattle.dimacs_text.specs.Logs.{ended, lit_word, LitsWithin, SpellsLog}
+use Rattle.dimacs_text.specs.Logs.{ended, lit_word, LitsWithin}
 use Rattle.dimacs_text.specs.Writing.{written_words, written_lines, log_lines, LinesWithin}
-use Rattle.dimacs_text.proofs.WritingLemmas.{line_words, log_spelled}
-use Rattle.dimacs_text.proofs.OneTextLemmas.{one_log}
+use Rattle.dimacs_text.proofs.WritingLemmas.{line_words}
 use Rattle.cnf_build.specs.Evidence.{IsNumbered, line_numbered, IsWrittenLog}
 use Rattle.report_text.specs.Report.{LinesFit}
 use Rattle.report_text.specs.Laws.{EndClosesLog}
-use Rattle.report_text.specs.Rows.{closed_log}
-use Rattle.report_text.proofs.RowLemmas.{lists_differ}
 use Rattle.report_text.proofs.WordLemmas.{is_inside}
 
 -- what a log owes that is printed
@@ -35,7 +32,7 @@ lits_within : (lits : Clause) → AllByRecursion IsNumbered lits → LitsWithin 
 lits_within [] h = tt
 lits_within (l ∷ lits) h = (h.0, lits_within lits h.1)
 
-within : (log : List Line) → AllByRecursion line_numbered log → LinesWithin VARIABLE_LIMIT log
+pub within : (log : List Line) → AllByRecursion line_numbered log → LinesWithin VARIABLE_LIMIT log
 within [] h = tt
 within (Line.Add id lits hints ∷ log) h = (lits_within lits h.0, within log h.1)
 within (Line.Del ids ∷ log) h = (tt, within log h.1)
@@ -52,14 +49,14 @@ spaced_first : (b : ℕ) (w : List ℕ) (ws : List (List ℕ)) → (r : List ℕ
 spaced_first b w [] = (w, refl)
 spaced_first b w (v ∷ ws) = (w ++ 32 ∷ spaced (v ∷ ws), refl)
 
-number_first : (w : List ℕ) (n : ℕ) (ws : List (List ℕ)) → n < 10000000000 → decimal n ≡ w → BeginsLow (spaced (w ∷ ws))
+pub number_first : (w : List ℕ) (n : ℕ) (ws : List (List ℕ)) → n < 10000000000 → decimal n ≡ w → BeginsLow (spaced (w ∷ ws))
 number_first [] n ws lt e = absurd (omega (arith, decimal_nonempty n (let h : n < 2 ^ 64 = omega arith in h), ap length e))
 number_first (b ∷ w) n ws lt e =
     let s = spaced_first b w ws in
     let digit = digit_in (b ∷ w) [] n 0 lt (decimal_nonempty n (let h : n < 2 ^ 64 = omega arith in h)) (sym e ∙ sym (append-nil (decimal n))) in
     (b, s.0, omega (arith, digit), s.1)
 
-free_of : (row : List ℕ) → IsUnbroken row → NoFeed row
+pub free_of : (row : List ℕ) → IsUnbroken row → NoFeed row
 free_of [] h = tt
 free_of (b ∷ bs) h = (h.0.0, free_of bs h.1)
 
@@ -95,7 +92,7 @@ row_told : (a b x y : List ℕ) → IsLogRow a → IsLogRow b → (a ++ 10 ∷ [
 row_told a b x y ha hb e = word_told is_inside a b 10 x y (inside a ha.0) (inside b hb.0) refl (sym (append_assoc a (10 ∷ []) x) ∙ e ∙ append_assoc b (10 ∷ []) y)
 
 -- what follows the rows begins with a later byte
-abbrev IsAfterRows : List ℕ → Type 0
+abbrev pub IsAfterRows : List ℕ → Type 0
 IsAfterRows x = (b : ℕ) × (r : List ℕ) × (57 < b) × (x ≡ b ∷ r)
 
 row_apart : (a x y : List ℕ) → IsLogRow a → IsAfterRows y → (a ++ 10 ∷ []) ++ x ≡ y → ⊥
@@ -104,7 +101,7 @@ row_apart a x y h after e =
     let same = heads h.1.0 after.0 _ _ (sym first ∙ e ∙ after.3) in
     omega (arith, same, h.1.2, after.2)
 
-rows_told : (as' bs : List (List ℕ)) (x y : List ℕ) → AllByRecursion IsLogRow as' → AllByRecursion IsLogRow bs → IsAfterRows x → IsAfterRows y → text_of as' ++ x ≡ text_of bs ++ y → (as' ≡ bs) × (x ≡ y)
+pub rows_told : (as' bs : List (List ℕ)) (x y : List ℕ) → AllByRecursion IsLogRow as' → AllByRecursion IsLogRow bs → IsAfterRows x → IsAfterRows y → text_of as' ++ x ≡ text_of bs ++ y → (as' ≡ bs) × (x ≡ y)
 rows_told [] [] x y ha hb ex ey e = (refl, e)
 rows_told [] (b ∷ bs) x y ha hb ex ey e = absurd (row_apart b (text_of bs ++ y) x hb.0 ex (sym (append_assoc (b ++ 10 ∷ []) (text_of bs) y) ∙ sym e))
 rows_told (a ∷ as') [] x y ha hb ex ey e = absurd (row_apart a (text_of as' ++ x) y ha.0 ey (sym (append_assoc (a ++ 10 ∷ []) (text_of as') x) ∙ e))
@@ -112,21 +109,6 @@ rows_told (a ∷ as') (b ∷ bs) x y ha hb ex ey e =
     let r = row_told a b (text_of as' ++ x) (text_of bs ++ y) ha.0 hb.0 (sym (append_assoc (a ++ 10 ∷ []) (text_of as') x) ∙ e ∙ append_assoc (b ++ 10 ∷ []) (text_of bs) y) in
     let s = rows_told as' bs x y ha.1 hb.1 ex ey r.1 in
     (ap₂ (λ (z : List ℕ) (zs : List (List ℕ)). z ∷ zs) r.0 s.0, s.1)
-
--- ---- the log
-
-pub spelled : (log : List Line) → IsPrinted log → SpellsLog VARIABLE_LIMIT 0 (log_lines log) log
-spelled log h = log_spelled VARIABLE_LIMIT 0 1 (omega arith) (omega arith) (omega arith) log h.0.rise h.0.positive h.1 (within log h.0.numbered)
-
-same_log : (ls ms : List Line) → IsPrinted ls → IsPrinted ms → log_lines ls ≡ log_lines ms → ls ≡ ms
-same_log ls ms hl hm e = one_log VARIABLE_LIMIT (omega arith) 0 (log_lines ls) ls ms (spelled ls hl) (subst (λ (t : List (List ℕ)). SpellsLog VARIABLE_LIMIT 0 t ms) (sym e) (spelled ms hm))
-
--- a log up to its end
-pub log_told : (ls ms : List Line) (x y : List ℕ) → IsPrinted ls → IsPrinted ms → text_of (closed_log ls) ++ x ≡ text_of (closed_log ms) ++ y → (ls ≡ ms) × (x ≡ y)
-log_told ls ms x y hl hm e =
-    let e' = lists_differ (log_lines ls) (log_lines ms) (codes "end" ∷ []) (codes "end" ∷ []) x y e in
-    let r = rows_told (log_lines ls) (log_lines ms) _ _ (rows_of ls hl) (rows_of ms hm) (101, _, omega arith, refl) (101, _, omega arith, refl) e' in
-    (same_log ls ms hl hm r.0, append_cancel_left (codes "end\n") x y r.1)
 
 -- ---- the line that ends it
 

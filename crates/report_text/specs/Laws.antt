@@ -8,6 +8,7 @@ use Rattle.dimacs_text.specs.Writing.{log_lines}
 use Rattle.netlist_verilog.specs.Module.{ModuleValue}
 use Rattle.report_text.specs.Report.{ReportValue, IsReport, LinesFit, LogsFit}
 use Rattle.report_text.specs.Rows.{netlist_lines, report_lines}
+use Rattle.report_text.specs.Spelling.{SpellsToEnd, SpellsReport}
 
 -- two reports with the same text are one
 abbrev pub TextTellsReport : Type 0
@@ -28,3 +29,15 @@ ModuleEndsReport = (r : ReportValue) → IsReport r → LogsFit r → EndsWithMo
 -- no line of a log is the line that ends it
 abbrev pub EndClosesLog : Type 0
 EndClosesLog = (log : List Line) → IsWrittenLog log → LinesFit log → AllByRecursion (λ line. line ≢ codes "end") (log_lines log)
+
+-- what is written spells the report
+abbrev pub WrittenIsSpelled : Type 0
+WrittenIsSpelled = (r : ReportValue) → IsReport r → LogsFit r → SpellsReport r (report_lines r)
+
+-- lines up to an end spell one log
+abbrev pub SpellingTellsLog : Type 0
+SpellingTellsLog = (last : ℕ) (lines : List (List ℕ)) (a b : List Line) → SpellsToEnd last a lines → SpellsToEnd last b lines → a ≡ b
+
+-- lines spell one report
+abbrev pub SpellingTellsReport : Type 0
+SpellingTellsReport = (lines : List (List ℕ)) (a b : ReportValue) → SpellsReport a lines → SpellsReport b lines → a ≡ b

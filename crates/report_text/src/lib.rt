@@ -22,7 +22,10 @@ mod version;
 mod writing;
 
 pub use bound::Bound;
-pub use laws::{end_closes_log, module_ends_report, text_tells_report};
+pub use laws::{
+    end_closes_log, module_ends_report, spelling_tells_log, spelling_tells_report,
+    text_tells_report, written_is_spelled,
+};
 pub use parts::ReportParts;
 pub use report::Report;
 pub use version::Version;
