@@ -1,5 +1,5 @@
 -- What shows that no encoding has fewer gates than a number, and what is left open above it.
-use Rattle.std.specs.Prelude.{◌≡◌, ℕ, ◌+◌, ◌<◌, ◌≤◌, Bool, if◌then◌else◌, List, length}
+use Rattle.std.specs.Prelude.{◌≡◌, ℕ, ◌+◌, ◌<◌, ◌≤◌, if◌then◌else◌, List, length}
 use Rattle.std.specs.List.{list_any, AllByRecursion}
 use Rattle.cpog_base.specs.declared.limits.TheConstants.{TEMPLATE_LIMIT, VARIABLE_LIMIT}
 use Rattle.cpog_base.specs.Pattern.{is_given}

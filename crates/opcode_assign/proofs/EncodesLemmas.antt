@@ -9,8 +9,8 @@ use Rattle.gate_core.specs.Least.{AreLeast}
 use Rattle.gate_core.specs.Serving.{ReferencesServe}
 use Rattle.opcode_assign.specs.Assignments.{IsAssignmentOn, IsFirstAssignment}
 use Rattle.std.specs.List.{All}
-use Rattle.cpog_defs.specs.Gates.{GateList, IsGateList, IsRefOver, signal_count}
-use Rattle.cpog_defs.specs.Graphs.{ConditionalGraph, IsGraph}
+use Rattle.cpog_defs.specs.Gates.{IsGateList, signal_count}
+use Rattle.cpog_defs.specs.Graphs.{IsGraph}
 use Rattle.gate_core.specs.First.{IsFirstEncoding}
 use Rattle.cpog_merge.specs.Columns.{Columns, AreColumnsOf, AgreesWith}
 use Rattle.cpog_merge.specs.Classes.{Classes, AreClassesOf}
@@ -69,22 +69,3 @@ assignment_on codes count bits n orders t list refs e are same inputs gates coun
       first = first;
       conditions = subst (λ k. IsGraphByClass k list refs e.graph) whole conditions;
     }
-
--- what is made of classes that are shown as columns, and of references that are shown as a slice, is the assignment
-pub shown_assignment : {count bits n : ℕ} {orders : List Order} {t : Columns} {list : Classes}
-    {columns : List (List Bit3)} {shown refs : List Ref} {codes : List ℕ} (made : List ℕ) (gates : GateList)
-    (graph : ConditionalGraph) → AreCodes bits n codes → made ≡ codes → gates.inputs ≡ bits → IsGateList gates
-    → t.count ≡ count → AreColumnsOf orders t → AreClassesOf t list → columns ≡ list.columns → shown ≡ refs
-    → IsFirstEncoding codes bits columns (record { codes = made; gates = gates; refs = refs })
-    → ReferencesServe columns made gates refs
-    → ((signals : ℕ) → All (IsRefOver signals) shown → IsGraph list.count signals graph)
-    → IsGraphByClass list.count list shown graph
-    → IsAssignmentOn codes count orders bits (record { codes = made; gates = gates; graph = graph })
-shown_assignment {count} {bits} {n} {orders} {t} {list} {columns} {shown} {refs}
-    {codes} made gates graph are same inputs is count_is is_table classes shows refs_are first serves square
-    conditions =
-    assignment_on codes count bits n orders t list refs (record { codes = made; gates = gates; graph = graph })
-    are same inputs is count_is is_table classes
-    (subst (λ cs. IsFirstEncoding codes bits cs (record { codes = made; gates = gates; refs = refs })) shows first)
-    (square (signal_count gates) (subst (All (IsRefOver (signal_count gates))) (sym refs_are) serves.over))
-    (subst (λ rs. IsGraphByClass list.count list rs graph) refs_are conditions)
