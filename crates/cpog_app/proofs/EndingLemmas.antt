@@ -1,8 +1,8 @@
 -- A run ends by an allowed output, which never has the status of want of memory or of a fault of the sink.
-use Rattle.std.proofs.Common.{◌≡◌, ◌≢◌, ◌⊎◌, ℕ, Bool, true, false, List, length, refl, sym, ◌∙◌, ap, arith, inl, inr}
+use Rattle.std.proofs.Common.{◌≡◌, ◌≢◌, ◌⊎◌, ℕ, Bool, true, false, List, refl, sym, ◌∙◌, ap, inl, inr}
 use Rattle.std.specs.Prelude.{Option, Some, None}
 use Rattle.std.specs.Io.KnownBytes.{Appends}
-use Rattle.std.proofs.lemmas.Bool.{cases_lt, false≢true}
+use Rattle.std.proofs.lemmas.Bool.{false≢true}
 use Rattle.cpog_base.specs.declared.limits.TheConstants.{INPUT_LIMIT, LONG_INPUT_LIMIT}
 use Rattle.cpog_base.specs.declared.status.Status.{Status}
 use Rattle.cpog_base.specs.declared.status.Status.TheVariants as status
@@ -20,8 +20,6 @@ use Rattle.cpog_app.specs.Answers.{IsSynthAnswer, IsNormalAnswer, IsCnfAnswer}
 use Rattle.cpog_app.specs.Judged.{IsLratAnswer}
 use Rattle.cpog_app.specs.Solved.{IsSolveAnswer}
 use Rattle.cpog_app.specs.Allowed.{Input, IsFaultAnswer, IsGraphTextAnswer, IsReadingAnswer, IsCommandAnswer, IsWordsAnswer, IsAllowed, IsPrinted, Ends}
-use Rattle.cpog_outside.specs.Room.{HasRoom}
-use Rattle.cpog_app.specs.Complete.{StaysQuiet}
 use Rattle.cpog_app.proofs.Causes.{Cause}
 
 -- a status that no end and no want of memory gives
@@ -133,19 +131,3 @@ ends_printed words input room taken taken_after s output allowed whole =
     ended status.Memory e h = absurd (false≢true e)
     ended status.WriteFault e h = absurd (false≢true e)
     ended other e h = h
-
--- a sink has room or not
-has_room : (room : Option ℕ) (count : ℕ) → HasRoom room count ⊎ (¬ HasRoom room count)
-has_room None count = inr (λ h. h)
-has_room (Some room) count = elim (cases_lt room count) [
-  | inl l ↦ inr (λ h. omega (arith, l, h))
-  | inr g ↦ inl (omega (arith, g))
-]
-
--- a count that stays where there is room for an allowed output, stays or there is none for it
-pub stays_quiet : (words : List (List ℕ)) (input : Input) (room : Option ℕ) (faults faults_after : ℕ) (s : Status) (output : List ℕ) →
-    IsAllowed words input s output → (HasRoom room (length output) → faults_after ≡ faults) → StaysQuiet words input room faults faults_after
-stays_quiet words input room faults faults_after s output allowed quiet = elim (has_room room (length output)) [
-  | inl h ↦ inl (quiet h)
-  | inr none ↦ inr (record { status = s; output = output; allowed = allowed; no_room = none })
-]

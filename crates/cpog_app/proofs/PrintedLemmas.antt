@@ -1,6 +1,7 @@
 -- The controller that stands in a printed report, and the status of its bound.
 use Rattle.std.proofs.Common.{◌≡◌, ◌↔◌, ℕ, ◌<◌, Bool, true, false, IsTrue, List, length, refl, sym, ap, subst, ◌∙◌, arith, inl, inr}
 use Rattle.std.specs.List.{All}
+use Rattle.std.proofs.lemmas.Bool.{false≢true}
 use Rattle.cpog_base.specs.declared.status.Status.{Status}
 use Rattle.cpog_base.specs.declared.status.Status.TheVariants as status
 use Rattle.cpog_defs.specs.Orders.{IsOrderOf}
@@ -40,7 +41,7 @@ shows_each_run f r is events m i at run inputs settled =
     }
 
 -- the text of a file's report is what may be printed for it
-report_answers : (options : SynthOptions) (f : Contents) (r : ReportValue) (output : List ℕ) → IsSynthesis options f r → LogsFit r → output ≡ text_of (report_lines r) → IsReportAnswer options f output
+abbrev report_answers : (options : SynthOptions) (f : Contents) (r : ReportValue) (output : List ℕ) → IsSynthesis options f r → LogsFit r → output ≡ text_of (report_lines r) → IsReportAnswer options f output
 report_answers options f r output is fits e = record {
   report = r;
   synthesis = is;
@@ -63,7 +64,8 @@ synth_answers options f r output is fits e = by_bound options.exact r.bound refl
     answer = report_answers options f r output is fits e
 
     by_bound : (exact : Bool) (b : Bound) → options.exact ≡ exact → r.bound ≡ b → Attains (length r.encoding.gates.gates) b → IsSynthAnswer options f (report_status exact b) output
-    by_bound exact (Minimum h) said bound attained = inr (inl (refl, record { printed = answer; closed = λ _. ap printed_lower bound ∙ sym attained }))
-    by_bound false (Between lo hi) said bound attained = inr (inl (refl, record { printed = answer; closed = λ t. absurd (subst IsTrue said t) }))
+    by_bound false (Minimum h) said bound attained = inr (inl (refl, record { printed = answer; closed = λ _. ap printed_lower bound ∙ sym attained }))
+    by_bound true (Minimum h) said bound attained = inr (inl (refl, record { printed = answer; closed = λ _. ap printed_lower bound ∙ sym attained }))
+    by_bound false (Between lo hi) said bound attained = inr (inl (refl, record { printed = answer; closed = λ t. absurd (false≢true (subst IsTrue said t)) }))
     by_bound true (Between lo hi) said bound attained =
         inr (inr (refl, record { printed = answer; exact = said; unequal = omega (arith, ap printed_lower bound, attained.0, attained.1) }))
