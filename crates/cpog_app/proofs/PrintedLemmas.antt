@@ -1,9 +1,7 @@
 -- The controller that stands in a printed report, and the status of its bound.
-use Rattle.std.proofs.Common.{◌≡◌, ◌↔◌, ℕ, ◌<◌, Bool, true, false, IsTrue, List, length, refl, sym, ap, subst, ◌∙◌, arith, inl, inr}
+use Rattle.std.proofs.Common.{◌≡◌, ◌↔◌, ℕ, Bool, true, false, IsTrue, List, length, refl, sym, ap, subst, ◌∙◌, arith, inl, inr}
 use Rattle.std.specs.List.{All}
 use Rattle.std.proofs.lemmas.Bool.{false≢true}
-use Rattle.cpog_base.specs.declared.status.Status.{Status}
-use Rattle.cpog_base.specs.declared.status.Status.TheVariants as status
 use Rattle.cpog_defs.specs.Orders.{IsOrderOf}
 use Rattle.cpog_defs.specs.Encodings.{IsEncoding}
 use Rattle.handshake_eqs.specs.declared.machine.Machine.TheVariants.{Idle}
@@ -21,7 +19,7 @@ use Rattle.report_text.proofs.ModuleLemmas.{module_ends}
 use Rattle.cpog_app.specs.declared.words.SynthOptions.{SynthOptions}
 use Rattle.cpog_app.specs.Synthesis.{printed_lower, Attains, IsSound, IsSynthesis, report_status}
 use Rattle.cpog_app.specs.Printed.{ShowsEachRun}
-use Rattle.cpog_app.specs.Answers.{IsReportAnswer, IsClosedReport, IsOpenReport, IsSynthAnswer}
+use Rattle.cpog_app.specs.Answers.{IsReportAnswer, IsSynthAnswer}
 
 -- the report's netlist shows each run
 shows_each_run : (f : Contents) (r : ReportValue) (is : IsSound f r) → ShowsEachRun is.orders r.encoding.codes r.design

@@ -1,5 +1,5 @@
 -- The words of the command line: numbers, options, and what a command says of them.
-use Rattle.std.proofs.Common.{◌≡◌, ◌≤◌, ◌<◌, ◌⊎◌, ℕ, suc, zero, List, [], ◌∷◌, Some, None, true, false, Bool, refl, sym, ◌∙◌, ap, ap₂, subst, arith, inl, inr, if◌then◌else◌, length, ◌-◌, take, drop, get_or}
+use Rattle.std.proofs.Common.{◌≡◌, ◌≤◌, ◌<◌, ◌⊎◌, ℕ, suc, zero, List, [], ◌∷◌, Some, None, true, false, Bool, refl, sym, ◌∙◌, ap, subst, arith, inl, inr, if◌then◌else◌, length, ◌-◌, take, drop, get_or}
 use Rattle.std.specs.Prelude.{Option, nat_le, option_and_then, option_map, unwrap_or}
 use Rattle.std.specs.Fmt.{decimal}
 use Rattle.std.specs.Str.{bytes_eq}

@@ -1,8 +1,7 @@
-use Rattle.std.proofs.Common.{◌≡◌, length, refl, subst, sym, ap, ◌∙◌, arith}
+use Rattle.std.proofs.Common.{◌≡◌, length, subst, sym, ap, ◌∙◌, arith}
 use Rattle.cnf_build.specs.Evidence.{evidence_of, open_of}
 use Rattle.cpog_base.specs.Names.{AreDistinct}
 use Rattle.cpog_defs.specs.Gates.{GateList}
-use Rattle.opcode_assign.specs.Answers.{IsSearched}
 use Rattle.pg_normal.specs.Denoting.{scenario_names_of}
 use Rattle.pg_text.specs.Text.{IsFile}
 use Rattle.netlist_verilog.specs.Module.{AreNames}
