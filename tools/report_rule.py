@@ -9,7 +9,7 @@ from dataclasses import dataclass
 from functools import cached_property
 from typing import Callable, Iterator, NamedTuple
 
-from questions import Clause, Column, Order, Template, classes_of, closure
+from questions import Column, Order, Template, classes_of, closure
 from steps import Addition, Deletion, Step, after, broken_hint, is_lawful, live_clauses, old_line, read_step, spent
 
 NAME = re.compile(r"[A-Za-z_][A-Za-z0-9_]{0,31}")

@@ -16,9 +16,9 @@ from typing import NamedTuple
 
 import texts
 from report_rule import GATES_END, Log, Report, read_report
+from runs import TOP
 from steps import Step, spent
 
-TOP = pathlib.Path(__file__).resolve().parent.parent
 BUDGET = 2_000_000
 # How long a search of the default budget may take on so few scenarios, and how long CaDiCaL may.
 MOST_SECONDS = 5.0
