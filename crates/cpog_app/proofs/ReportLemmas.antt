@@ -27,7 +27,8 @@ use Rattle.report_text.specs.declared.bound.Bound.TheVariants.{Minimum, Between}
 use Rattle.report_text.specs.declared.version.Version.TheVariants.{One}
 use Rattle.report_text.specs.Report.{ReportValue, IsArcBefore, IsBound, IsReportEvidence, IsReportOpen, IsReport, IsReported}
 use Rattle.opcode_assign.specs.Answers.{IsSearched}
-use Rattle.opcode_assign.specs.Assignments.{IsFirstAssignment}
+use Rattle.opcode_assign.specs.Assignments.{IsFirstAssignment, IsFirstOrFewer}
+use Rattle.opcode_assign.specs.Searches.{IsShownBy}
 use Rattle.pg_text.specs.Contents.{Contents}
 use Rattle.pg_normal.specs.Denoting.{Stated, stated_in, scenario_names_of, IsDenoted, AreDenoted}
 use Rattle.cpog_app.specs.declared.encodable.Encodable.{Encodable}
@@ -344,11 +345,13 @@ module _ (options : SynthOptions) (may : MayBeAsked options) (x : Encodable) (is
     taken = found.taken;
     counting_set = found.set;
     counting_bound = subst (λ k. length found.taken ≤ k + x.bits) (sym lower) found.counted;
+    shown_by = subst (λ k. IsShownBy found.classes given x.bits options.budget found.taken k evidence) (sym lower) found.shown_by;
     open_part = subst (λ k. IsOpenPart given x.bits found.classes.columns k (length e.gates.gates) options.budget open_part) (sym lower) found.is_open_part;
     refs = found.refs;
     serve = found.serve;
     conditions = subst (λ m. IsGraphByClass m found.classes found.refs e.graph) same found.conditions;
     first = λ l. subst (λ m. IsFirstAssignment m orders given x.bits e) same (found.first (subst (λ k. k < length e.gates.gates) lower l));
+    first_or_fewer = subst (λ m. IsFirstOrFewer m orders given x.bits e) same found.kept_or_fewer;
   }
 
   -- and the file's synthesis, over bits and with a budget as they are said

@@ -18,7 +18,8 @@ use Rattle.cpog_merge.specs.Columns.{Columns, AreColumnsOf}
 use Rattle.cpog_merge.specs.Incompatible.{IsIncompatibleSet}
 use Rattle.cnf_build.specs.Evidence.{IsEvidence, IsOpenPart}
 use Rattle.handshake_eqs.specs.Netlists.{IsNetlistOf}
-use Rattle.opcode_assign.specs.Assignments.{IsFirstAssignment, most_gates}
+use Rattle.opcode_assign.specs.Assignments.{IsFirstAssignment, IsFirstOrFewer, most_gates}
+use Rattle.opcode_assign.specs.Searches.{IsShownBy}
 use Rattle.pg_text.specs.Contents.{Contents}
 use Rattle.report_text.specs.declared.bound.Bound.{Bound}
 use Rattle.report_text.specs.declared.bound.Bound.TheVariants.{Minimum, Between}
@@ -81,6 +82,9 @@ pub record IsSound (f : Contents) (r : ReportValue) : Type 0 where
   pub taken : List ℕ
   pub counting_set : IsIncompatibleSet classes.columns taken
   pub counting_bound : length taken ≤ printed_lower r.bound + r.bits
+  -- The evidence is the count where that gives the lower bound, with a place for each class that is counted. Else it is a
+  -- refutation of the template that a search asks, and its log stays below the budget.
+  pub shown_by : IsShownBy classes r.patterns r.bits r.budget taken (printed_lower r.bound) r.evidence
   -- between its bounds there is the open part; where they are equal there is none
   pub open_part : IsOpenPart r.patterns r.bits classes.columns (printed_lower r.bound) (length r.encoding.gates.gates) r.budget r.open_part
   -- its conditions are those of the classes, and its encoding is the first one where the bounds aren't equal
@@ -89,6 +93,8 @@ pub record IsSound (f : Contents) (r : ReportValue) : Type 0 where
   pub conditions : IsGraphByClass (length f.operations) classes refs r.encoding.graph
   pub first : printed_lower r.bound < length r.encoding.gates.gates →
       IsFirstAssignment (length f.operations) orders r.patterns r.bits r.encoding
+  -- where they are equal too, only an encoding with fewer gates takes the place of the first one
+  pub first_or_fewer : IsFirstOrFewer (length f.operations) orders r.patterns r.bits r.encoding
 
 -- a sound report of the file over the said bits, with the said budget
 pub record IsSynthesis (options : SynthOptions) (f : Contents) (r : ReportValue) : Type 0 where

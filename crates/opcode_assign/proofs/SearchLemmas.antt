@@ -32,11 +32,11 @@ use Rattle.gate_template.specs.Values.{Parts, IsSolution}
 use Rattle.cnf_build.specs.Sizes.{IsAsked}
 use Rattle.cnf_build.specs.Evidence.{EvidenceValue, OpenValue, evidence_of, open_of, IsEvidence, IsOpenPart, HasWrittenEvidence, HasWrittenOpenPart}
 use Rattle.cnf_build.proofs.EvidenceLemmas.{evidence_bounds_lem}
-use Rattle.opcode_assign.specs.Assignments.{CanBeAssigned, IsFirstAssignment, most_gates}
+use Rattle.opcode_assign.specs.Assignments.{CanBeAssigned, IsFirstAssignment, IsFirstOrFewer, most_gates}
 use Rattle.cpog_base.specs.declared.memory.Memory.{Memory}
 use Rattle.opcode_assign.specs.declared.minimum.Answer.{Answer}
 use Rattle.opcode_assign.specs.Answers.{IsSearched, IsAnswer}
-use Rattle.opcode_assign.specs.Searches.{IsCounted, CanBeEncoded, IsEncodedBy}
+use Rattle.opcode_assign.specs.Searches.{IsCounted, IsShownBy, CanBeEncoded, IsEncodedBy}
 use Rattle.opcode_assign.proofs.EncodesLemmas.{by_class_encodes, assignment_on, first_from}
 
 -- ---- where there is nothing to search
@@ -89,10 +89,17 @@ counted_written list bits lo EvidenceValue.Zero h = tt
 counted_written list bits lo (EvidenceValue.Count places) h = tt
 counted_written list bits lo (EvidenceValue.Refutation kind gates log) h = absurd h.count
 
-pub counted_few : (list : Classes) (bits lo : ℕ) (evidence : EvidenceValue) (h : IsCounted list bits lo evidence) → length h.taken ≤ lo + bits
-counted_few list bits lo EvidenceValue.Zero h = omega (arith, h.count.1)
-counted_few list bits lo (EvidenceValue.Count places) h = omega (arith, h.count.0)
-counted_few list bits lo (EvidenceValue.Refutation kind gates log) h = absurd h.count
+-- the count shows its number as a search shows it
+pub counted_shown : (list : Classes) (patterns : List (List Bit3)) (bits budget lo : ℕ) (evidence : EvidenceValue) (h : IsCounted list bits lo evidence) → IsShownBy list patterns bits budget h.taken lo evidence
+counted_shown list patterns bits budget lo EvidenceValue.Zero h = h.count
+counted_shown list patterns bits budget lo (EvidenceValue.Count places) h = h.count
+counted_shown list patterns bits budget lo (EvidenceValue.Refutation kind gates log) h = absurd h.count
+
+-- a number that is shown is at least the count less the bits
+pub shown_few : (list : Classes) (patterns : List (List Bit3)) (bits budget : ℕ) (taken : List ℕ) (lo : ℕ) (evidence : EvidenceValue) → IsShownBy list patterns bits budget taken lo evidence → length taken ≤ lo + bits
+shown_few list patterns bits budget taken lo EvidenceValue.Zero h = omega (arith, h.1)
+shown_few list patterns bits budget taken lo (EvidenceValue.Count places) h = omega (arith, h.0)
+shown_few list patterns bits budget taken lo (EvidenceValue.Refutation kind gates log) h = omega (arith, h.0)
 
 -- ---- encodings of classes
 
@@ -140,13 +147,14 @@ module _ (orders : List Order) (patterns : List (List Bit3)) (bits : ℕ) (t : C
       (solution_encodes orders patterns bits t list are classes fits fit.one_each parts (graph_by_class list parts.refs) solution g.0 g.1)
 
   -- a bound with its evidence, a solution with its graph, and what is left open between them
-  pub searched : (budget lo start : ℕ) (counted shown : EvidenceValue) (left : OpenValue) (parts : Parts) (graph : ConditionalGraph) → IsCounted list bits start counted → start ≤ lo →
-      IsEvidence (count_of orders) orders patterns bits list.columns lo shown → HasWrittenEvidence shown → IsSolution Third patterns bits list.columns parts →
+  pub searched : (budget lo start : ℕ) (counted shown : EvidenceValue) (left : OpenValue) (parts : Parts) (graph : ConditionalGraph) (count : IsCounted list bits start counted) →
+      IsShownBy list patterns bits budget count.taken lo shown → IsEvidence (count_of orders) orders patterns bits list.columns lo shown → HasWrittenEvidence shown → IsSolution Third patterns bits list.columns parts →
       IsGraph list.count (signal_count parts.gates) graph → IsGraphByClass list.count list parts.refs graph → length parts.gates.gates ≤ most_gates →
       IsOpenPart patterns bits list.columns lo (length parts.gates.gates) budget left → HasWrittenOpenPart left →
       (lo < length parts.gates.gates → IsFirstAssignment (count_of orders) orders patterns bits (record { codes = parts.codes; gates = parts.gates; graph = graph })) →
+      IsFirstOrFewer (count_of orders) orders patterns bits (record { codes = parts.codes; gates = parts.gates; graph = graph }) →
       IsSearched orders patterns bits budget (record { codes = parts.codes; gates = parts.gates; graph = graph }) lo shown left
-  searched budget lo start counted shown left parts graph count above evidence written solution is_graph conditions few open_part open_written first = record {
+  searched budget lo start counted shown left parts graph count shown_by evidence written solution is_graph conditions few open_part open_written first kept = record {
     encodes = solution_encodes orders patterns bits t list are classes fits fit.one_each parts graph solution is_graph conditions;
     few_gates = few;
     columns = t;
@@ -158,11 +166,13 @@ module _ (orders : List Order) (patterns : List (List Bit3)) (bits : ℕ) (t : C
     conditions = subst (λ k. IsGraphByClass k list parts.refs graph) (classes.count ∙ are.count) conditions;
     taken = count.taken;
     set = count.set;
-    counted = omega (arith, counted_few list bits start counted count, above);
+    counted = shown_few list patterns bits budget count.taken lo shown shown_by;
+    shown_by = shown_by;
     is_evidence = evidence;
     lower = evidence_bounds_lem orders patterns t list bits lo shown can.alike are classes can.some fit evidence;
     is_open_part = open_part;
     first = first;
+    kept_or_fewer = kept;
     written = record { of_evidence = written; of_open_part = open_written };
   }
 
@@ -174,6 +184,17 @@ module _ (orders : List Order) (patterns : List (List Bit3)) (bits : ℕ) (t : C
   first_assigned codes made refs gates graph least coded same first solution is_graph conditions =
       first_from codes (count_of orders) bits orders patterns (record { codes = made; gates = gates; graph = graph }) least
       (assignment_on codes (count_of orders) bits (length patterns) orders t list refs (record { codes = made; gates = gates; graph = graph }) coded same solution.inputs solution.gates are.count are classes first is_graph conditions)
+
+  -- the first encoding with the graph by its classes is the first assignment, and an encoding with fewer gates may take its place
+  pub fewer_than_first : (codes made : List ℕ) (refs : List Ref) (gates : GateList) (e : Encoding) → AreLeast patterns (2 ^ bits) codes → AreCodes bits (length patterns) codes → made ≡ codes →
+      IsFirstEncoding codes bits list.columns (record { codes = made; gates = gates; refs = refs }) → IsSolution Third patterns bits list.columns (record { codes = made; gates = gates; refs = refs }) →
+      length e.gates.gates < length gates.gates → IsFirstOrFewer (count_of orders) orders patterns bits e
+  fewer_than_first codes made refs gates e least coded same first solution fewer =
+      let g = by_class_is_graph (signal_count gates) list refs solution.references.over in record {
+        first = record { codes = made; gates = gates; graph = graph_by_class list refs };
+        is_first = first_assigned codes made refs gates (graph_by_class list refs) least coded same first solution g.0 g.1;
+        kept = inr fewer;
+      }
 
   -- its gates are few
   pub first_few : (codes made : List ℕ) (refs : List Ref) (gates : GateList) → count_of orders ≤ OPERATION_LIMIT →

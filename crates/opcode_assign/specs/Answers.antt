@@ -12,11 +12,13 @@ use Rattle.cpog_merge.specs.ByClass.{IsGraphByClass}
 use Rattle.cpog_merge.specs.Incompatible.{IsIncompatibleSet}
 use Rattle.cnf_build.specs.Evidence.{EvidenceValue, OpenValue, evidence_of, open_of, IsEvidence, IsOpenPart, AreLogsWritten}
 use Rattle.opcode_assign.specs.declared.minimum.Answer.{Answer}
-use Rattle.opcode_assign.specs.Assignments.{IsFirstAssignment, most_gates}
+use Rattle.opcode_assign.specs.Assignments.{IsFirstAssignment, IsFirstOrFewer, most_gates}
+use Rattle.opcode_assign.specs.Searches.{IsShownBy}
 
 -- what a search says of the encodings of scenarios that keep the given bits: the encoding fits them by the classes of
 -- their columns; no encoding has fewer gates than a number, which is at least the count of incompatible columns less the
--- bits, and there is evidence for it; where the encoding has more gates, it is the first one, and the rest is open
+-- bits, and there is evidence for it, by the count where that gives the number; nothing but fewer gates takes the place
+-- of the first encoding; where the encoding has more gates than the number, it is the first one, and the rest is open
 pub record IsSearched (orders : List Order) (patterns : List (List Bit3)) (bits budget : ℕ) (e : Encoding) (lo : ℕ)
     (evidence : EvidenceValue) (open_part : OpenValue) : Type 0 where
   pub encodes : Encodes (count_of orders) orders patterns bits e
@@ -31,10 +33,12 @@ pub record IsSearched (orders : List Order) (patterns : List (List Bit3)) (bits 
   pub taken : List ℕ
   pub set : IsIncompatibleSet classes.columns taken
   pub counted : length taken ≤ lo + bits
+  pub shown_by : IsShownBy classes patterns bits budget taken lo evidence
   pub is_evidence : IsEvidence (count_of orders) orders patterns bits classes.columns lo evidence
   pub lower : IsLowerBound (count_of orders) orders patterns bits lo
   pub is_open_part : IsOpenPart patterns bits classes.columns lo (length e.gates.gates) budget open_part
   pub first : lo < length e.gates.gates → IsFirstAssignment (count_of orders) orders patterns bits e
+  pub kept_or_fewer : IsFirstOrFewer (count_of orders) orders patterns bits e
   pub written : AreLogsWritten evidence open_part
 
 -- the encoding, the number, the evidence and the open part of an answer are what a search says

@@ -1,5 +1,5 @@
 -- The encoding of scenarios that is made without a search.
-use Rattle.std.specs.Prelude.{◌≡◌, ℕ, ◌+◌, ◌*◌, ◌^◌, ◌≤◌, List, length}
+use Rattle.std.specs.Prelude.{◌≡◌, ℕ, ◌+◌, ◌*◌, ◌^◌, ◌<◌, ◌≤◌, ◌⊎◌, List, length}
 use Rattle.std.specs.List.{All}
 use Rattle.cpog_base.specs.declared.limits.TheConstants.{BIT_LIMIT, SCENARIO_LIMIT}
 use Rattle.cpog_defs.specs.declared.types.Bit3.{Bit3}
@@ -46,3 +46,10 @@ pub record IsFirstAssignment (count : ℕ) (orders : List Order) (patterns : Lis
     (e : Encoding) : Type 0 where
   pub codes : AreLeast patterns (2 ^ bits) e.codes
   pub assigned : IsAssignmentOn e.codes count orders bits e
+
+-- nothing but fewer gates takes the place of the first assignment
+pub record IsFirstOrFewer (count : ℕ) (orders : List Order) (patterns : List (List Bit3)) (bits : ℕ)
+    (e : Encoding) : Type 0 where
+  pub first : Encoding
+  pub is_first : IsFirstAssignment count orders patterns bits first
+  pub kept : (e ≡ first) ⊎ (length e.gates.gates < length first.gates.gates)

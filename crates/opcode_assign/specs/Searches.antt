@@ -10,7 +10,7 @@ use Rattle.cpog_defs.specs.Encodings.{Encoding}
 use Rattle.clause_arena.specs.Arenas.{literals}
 use Rattle.proof_check.specs.Lines.{Line}
 use Rattle.proof_check.specs.Following.{Refutes}
-use Rattle.proof_check.specs.Progress.{IsProgressLog, Spends}
+use Rattle.proof_check.specs.Progress.{IsProgressLog, StaysBelow, Spends}
 use Rattle.cpog_merge.specs.Classes.{Classes}
 use Rattle.cpog_merge.specs.ByClass.{HaveReferences, IsGraphByClass}
 use Rattle.cpog_merge.specs.Incompatible.{IsIncompatibleSet, place_at}
@@ -20,7 +20,7 @@ use Rattle.gate_template.specs.Variables.{variables}
 use Rattle.gate_template.specs.Templates.{shape_of, template}
 use Rattle.gate_template.specs.Values.{Parts, IsSolution}
 use Rattle.cnf_build.specs.Decoded.{parts_of}
-use Rattle.cnf_build.specs.Evidence.{EvidenceValue, IsEvidence, IsOpenPart, IsWrittenLog, HasWrittenOpenPart, open_of}
+use Rattle.cnf_build.specs.Evidence.{EvidenceValue, IsEvidence, IsOpenPart, IsWrittenLog, HasWrittenOpenPart, open_of, template_for}
 use Rattle.opcode_assign.specs.declared.attempt.Attempt.{Attempt}
 use Rattle.opcode_assign.specs.declared.attempt.Attempt.TheVariants as attempts
 use Rattle.opcode_assign.specs.declared.raising.End.{End}
@@ -38,11 +38,19 @@ pub record IsCounted (list : Classes) (bits lo : ℕ) (evidence : EvidenceValue)
   pub set : IsIncompatibleSet list.columns taken
   pub count : IsCountOf list bits taken lo evidence
 
--- a log that refutes the template, which is not too large
-pub record IsRefuted (kind : Template) (patterns : List (List Bit3)) (bits : ℕ) (columns : List (List Bit3)) (gates : ℕ)
-    (log : List Line) : Type 0 where
+-- how a search shows a number: by the count of the incompatible classes where that gives it, else by a refutation of the
+-- template that it asks, whose log stays below the budget
+abbrev pub IsShownBy : Classes → List (List Bit3) → ℕ → ℕ → List ℕ → ℕ → EvidenceValue → Type 0
+IsShownBy list patterns bits budget taken lo (EvidenceValue.Refutation kind gates log) =
+    (length taken < lo + bits) × (kind ≡ template_for patterns) × StaysBelow budget log
+IsShownBy list patterns bits budget taken lo evidence = IsCountOf list bits taken lo evidence
+
+-- a log below the budget that refutes the template, which is not too large
+pub record IsRefuted (kind : Template) (patterns : List (List Bit3)) (bits : ℕ) (columns : List (List Bit3))
+    (gates budget : ℕ) (log : List Line) : Type 0 where
   pub size : literals (template kind patterns bits gates columns) ≤ TEMPLATE_LIMIT
   pub refutes : Refutes (length (variables (shape_of patterns bits gates columns))) (template kind patterns bits gates columns) log
+  pub below : StaysBelow budget log
   pub written : IsWrittenLog log
 
 -- a progress log that spends the budget on the template, which is not too large
@@ -58,15 +66,15 @@ pub record IsLeftOpen (kind : Template) (patterns : List (List Bit3)) (bits : �
 abbrev pub IsAttempt : Template → List (List Bit3) → ℕ → List (List Bit3) → ℕ → ℕ → Attempt → Type 0
 IsAttempt kind patterns bits columns gates budget (attempts.Found d) =
     IsSolution kind patterns bits columns (parts_of d.codes.items d.gates d.refs.items) × (length d.gates.gates ≡ gates)
-IsAttempt kind patterns bits columns gates budget (attempts.Refuted log) = IsRefuted kind patterns bits columns gates log.lines
+IsAttempt kind patterns bits columns gates budget (attempts.Refuted log) = IsRefuted kind patterns bits columns gates budget log.lines
 IsAttempt kind patterns bits columns gates budget (attempts.Open log) = IsLeftOpen kind patterns bits columns gates budget log.lines
 IsAttempt kind patterns bits columns gates budget attempts.TooLarge = TEMPLATE_LIMIT < literals (template kind patterns bits gates columns)
 
--- how the search ends at a bound: with a solution of so many gates, which keeps the given bits, or with what it leaves
--- open up to hi gates
+-- how the search ends at a bound: with a solution of so many gates, fewer than hi, which keeps the given bits, or with
+-- what it leaves open up to hi gates
 abbrev pub IsEnd : List (List Bit3) → ℕ → List (List Bit3) → ℕ → ℕ → ℕ → End → Type 0
 IsEnd patterns bits columns lo hi budget (ends.Found d) =
-    IsSolution Third patterns bits columns (parts_of d.codes.items d.gates d.refs.items) × (length d.gates.gates ≡ lo)
+    IsSolution Third patterns bits columns (parts_of d.codes.items d.gates d.refs.items) × (length d.gates.gates ≡ lo) × (lo < hi)
 IsEnd patterns bits columns lo hi budget (ends.Left open_part) =
     IsOpenPart patterns bits columns lo hi budget (open_of open_part) × HasWrittenOpenPart (open_of open_part)
 

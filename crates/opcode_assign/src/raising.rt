@@ -1,12 +1,12 @@
 //! The loop of a search: attempts with more and more gates.
-ghost use Rattle.std.specs.Prelude.{◌≡◌, ◌<◌, ◌≤◌, length, IfOk};
+ghost use Rattle.std.specs.Prelude.{◌≡◌, ℕ, ◌<◌, ◌≤◌, List, length, IfOk};
 ghost use Rattle.std.specs.List.{All};
 ghost use Rattle.gate_core.specs.Columns.{IsOpenColumn};
 ghost use Rattle.cnf_build.specs.Sizes.{IsAsked};
 ghost use Rattle.cnf_build.specs.Evidence.{evidence_of, HasWrittenEvidence};
 ghost use Rattle.cnf_build.specs.declared.evidence.OpenPart.TheVariants.{Log as OpenLog, Size as OpenSize};
 ghost use Rattle.opcode_assign.specs.declared.raising.End.TheVariants.{Left};
-ghost use Rattle.opcode_assign.specs.Searches.{IsEnd, Raises};
+ghost use Rattle.opcode_assign.specs.Searches.{IsEnd, IsShownBy, Raises};
 
 use crate::attempt::{Attempt, try_template};
 use crate::counting::Bound;
@@ -80,6 +80,7 @@ pub(crate) fn raise(
     ensures above { IfOk result (λ r. bound.lo ≤ r.bound.lo) }
     ensures below { IfOk result (λ r. r.bound.lo ≤ hi) }
     ensures raises { IfOk result (λ r. Raises given.now bits classes.now.columns bound.lo (evidence_of bound.evidence) r.bound.lo (evidence_of r.bound.evidence)) }
+    ensures shown { (taken : List ℕ) → IsShownBy classes.now given.now bits budget taken bound.lo (evidence_of bound.evidence) → IfOk result (λ r. IsShownBy classes.now given.now bits budget taken r.bound.lo (evidence_of r.bound.evidence)) }
     ensures written { HasWrittenEvidence (evidence_of bound.evidence) → IfOk result (λ r. HasWrittenEvidence (evidence_of r.bound.evidence)) }
     ensures end { IfOk result (λ r. IsEnd given.now bits classes.now.columns r.bound.lo hi budget r.end) }
 {

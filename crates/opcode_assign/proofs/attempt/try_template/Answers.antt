@@ -18,6 +18,7 @@ returns-in-Refuted c =
     record {
       size = size;
       refutes = found.1;
+      below = found.2;
       written = refutation_written n c.in-Refuted.log.first t c.in-Refuted.log.lines few c.read_log.ensures.log.rise c.read_log.ensures.log.positive c.read_log.ensures.variables found.1;
     }
 
