@@ -20,7 +20,7 @@ use Rattle.cpog_app.specs.Refusal.{refusal_text, At}
 use Rattle.cpog_app.specs.Refusals.{IsBadLineAnswer, IsPassedAnswer}
 use Rattle.cpog_app.specs.Answers.{IsSynthAnswer, IsNormalAnswer, IsCnfAnswer}
 use Rattle.cpog_app.specs.Solved.{IsSolveAnswer}
-use Rattle.cpog_app.specs.Allowed.{IsAnswerOfFile, IsGraphTextAnswer, Input, IsAnswerToAll, IsLongAnswer, IsReadingAnswer, IsCommandAnswer, IsWordsAnswer, IsAllowed, Ends}
+use Rattle.cpog_app.specs.Allowed.{IsAnswerOfFile, IsGraphTextAnswer, Input, IsAnswerToAll, IsLongAnswer, IsReadingAnswer, IsCommandAnswer, IsWordsAnswer, IsAllowed, Outlet, Ends}
 use Rattle.cpog_app.specs.Complete.{SpellFile, AreGoodFor, IsGoodRun, IsAnswered, RunsAreComplete}
 use Rattle.cpog_app.specs.Laws.{AreAlike, AllowedAgree}
 use Rattle.cpog_app.proofs.Causes.{Cause, Agree, IsOne, AreApart, either, one_at, one_either}
@@ -194,11 +194,11 @@ module _ (words : List (List ℕ)) (told : List ℕ) (input : Input) (left : inp
       subst (λ c. IsAnswered c s) (sym good.named)
       (command_is_answered good.command told good.good input left s x n (subst (λ c. IsWordsAnswer c input s x) good.named h))
 
-  run_is_answered : (room : Option ℕ) (taken taken_after : Option (List ℕ)) (s : Status) → Ends words input room taken taken_after s → s ≢ status.ReadFault → s ≢ status.WriteFault → IsAnswered (command_of words) s ⊎ (s ≡ status.Memory)
-  run_is_answered room taken after status.Memory h m n = inr refl
-  run_is_answered room taken after status.WriteFault h m n = absurd (n refl)
-  run_is_answered room taken after other h m n = inl (allowed_is_answered other h.output m h.allowed)
+  run_is_answered : (outlet : Outlet) (s : Status) → Ends words input outlet s → s ≢ status.ReadFault → s ≢ status.WriteFault → IsAnswered (command_of words) s ⊎ (s ≡ status.Memory)
+  run_is_answered outlet status.Memory h m n = inr refl
+  run_is_answered outlet status.WriteFault h m n = absurd (n refl)
+  run_is_answered outlet other h m n = inl (allowed_is_answered other h.output m h.allowed)
 
 -- a good run in which no end fails is complete
 pub complete : RunsAreComplete
-complete words told input room taken after s left good h m n = run_is_answered words told input left good room taken after s h m n
+complete words told input outlet s left good h m n = run_is_answered words told input left good outlet s h m n

@@ -1,11 +1,12 @@
 -- A run ends by an allowed output, which never has the status of want of memory or of a fault of the sink.
-use Rattle.std.proofs.Common.{◌≡◌, ◌≢◌, ◌⊎◌, ℕ, Bool, true, false, List, refl, sym, ◌∙◌, ap, inl, inr}
+use Rattle.std.proofs.Common.{◌≡◌, ◌≢◌, ◌⊎◌, ℕ, Bool, true, false, List, length, refl, sym, ◌∙◌, ap, inl, inr}
 use Rattle.std.specs.Prelude.{Option, Some, None}
 use Rattle.std.specs.Io.KnownBytes.{Appends}
 use Rattle.std.proofs.lemmas.Bool.{false≢true}
 use Rattle.cpog_base.specs.declared.limits.TheConstants.{INPUT_LIMIT, LONG_INPUT_LIMIT}
 use Rattle.cpog_base.specs.declared.status.Status.{Status}
 use Rattle.cpog_base.specs.declared.status.Status.TheVariants as status
+use Rattle.cpog_outside.specs.Room.{HasRoom}
 use Rattle.pg_text.specs.Contents.{Contents}
 use Rattle.cpog_app.specs.declared.encodable.CodeLength.{CodeLength}
 use Rattle.cpog_app.specs.declared.words.CnfOptions.{CnfOptions}
@@ -19,7 +20,7 @@ use Rattle.cpog_app.specs.Refusals.{IsEncodingRefusal}
 use Rattle.cpog_app.specs.Answers.{IsSynthAnswer, IsNormalAnswer, IsCnfAnswer}
 use Rattle.cpog_app.specs.Judged.{IsLratAnswer}
 use Rattle.cpog_app.specs.Solved.{IsSolveAnswer}
-use Rattle.cpog_app.specs.Allowed.{Input, IsFaultAnswer, IsGraphTextAnswer, IsReadingAnswer, IsCommandAnswer, IsWordsAnswer, IsAllowed, IsPrinted, Ends}
+use Rattle.cpog_app.specs.Allowed.{Input, IsFaultAnswer, IsGraphTextAnswer, IsReadingAnswer, IsCommandAnswer, IsWordsAnswer, IsAllowed, Outlet, IsPrinted, Ends}
 use Rattle.cpog_app.proofs.Causes.{Cause}
 
 -- a status that no end and no want of memory gives
@@ -122,12 +123,12 @@ read_fault_is words input s x h e = elim (words_whole (command_of words) input s
 ]
 
 -- a run ends by an allowed output that was taken whole
-pub ends_printed : (words : List (List ℕ)) (input : Input) (room : Option ℕ) (taken taken_after : Option (List ℕ)) (s : Status) (output : List ℕ) →
-    IsAllowed words input s output → Appends taken taken_after output → Ends words input room taken taken_after s
-ends_printed words input room taken taken_after s output allowed whole =
-    ended s (allowed_whole words input s output allowed) (record { output = output; allowed = allowed; whole = whole })
+pub ends_printed : (words : List (List ℕ)) (input : Input) (outlet : Outlet) (s : Status) (output : List ℕ) → IsAllowed words input s output →
+    Appends outlet.taken outlet.taken_after output → (HasRoom outlet.room (length output) → outlet.faults_after ≡ outlet.faults) → Ends words input outlet s
+ends_printed words input outlet s output allowed whole quiet =
+    ended s (allowed_whole words input s output allowed) (record { output = output; allowed = allowed; whole = whole; quiet = quiet })
   where
-    ended : (t : Status) → is_whole t ≡ true → IsPrinted words input t taken taken_after → Ends words input room taken taken_after t
+    ended : (t : Status) → is_whole t ≡ true → IsPrinted words input outlet t → Ends words input outlet t
     ended status.Memory e h = absurd (false≢true e)
     ended status.WriteFault e h = absurd (false≢true e)
     ended other e h = h

@@ -93,22 +93,36 @@ IsAllowed words input s output = IsWordsAnswer (command_of words) input s output
 
 -- ---- how a run ends
 
--- an allowed output was taken whole
-pub record IsPrinted (words : List (List ℕ)) (input : Input) (s : Status) (taken taken_after : Option (List ℕ)) : Type 0 where
+-- the sink before and after, as far as it tells its bytes, its count of faults, and its room before
+pub record Outlet : Type 0 where
+  pub taken : Option (List ℕ)
+  pub taken_after : Option (List ℕ)
+  pub faults : ℕ
+  pub faults_after : ℕ
+  pub room : Option ℕ
+
+-- nothing was written, and no fault came
+pub record IsUnwritten (outlet : Outlet) : Type 0 where
+  pub keeps : Keeps outlet.taken outlet.taken_after
+  pub quiet : outlet.faults_after ≡ outlet.faults
+
+-- an allowed output was taken whole, and where the sink had room for it no fault came
+pub record IsPrinted (words : List (List ℕ)) (input : Input) (outlet : Outlet) (s : Status) : Type 0 where
   pub output : List ℕ
   pub allowed : IsAllowed words input s output
-  pub whole : Appends taken taken_after output
+  pub whole : Appends outlet.taken outlet.taken_after output
+  pub quiet : HasRoom outlet.room (length output) → outlet.faults_after ≡ outlet.faults
 
 -- a front of an allowed output was taken before the sink failed, which had no room for all of it
-pub record IsCutShort (words : List (List ℕ)) (input : Input) (room : Option ℕ) (taken taken_after : Option (List ℕ)) : Type 0 where
+pub record IsCutShort (words : List (List ℕ)) (input : Input) (outlet : Outlet) : Type 0 where
   pub status : Status
   pub output : List ℕ
   pub allowed : IsAllowed words input status output
-  pub front : TakesFront taken taken_after output
-  pub no_room : ¬ HasRoom room (length output)
+  pub front : TakesFront outlet.taken outlet.taken_after output
+  pub no_room : ¬ HasRoom outlet.room (length output)
 
--- how a run into a sink with so much room ends, by its status: nothing was written, a front was, or all
-abbrev pub Ends : List (List ℕ) → Input → Option ℕ → Option (List ℕ) → Option (List ℕ) → Status → Type 0
-Ends words input room taken taken_after status.Memory = Keeps taken taken_after
-Ends words input room taken taken_after status.WriteFault = IsCutShort words input room taken taken_after
-Ends words input room taken taken_after other = IsPrinted words input other taken taken_after
+-- how a run ends, by its status: nothing was written, a front was, or all
+abbrev pub Ends : List (List ℕ) → Input → Outlet → Status → Type 0
+Ends words input outlet status.Memory = IsUnwritten outlet
+Ends words input outlet status.WriteFault = IsCutShort words input outlet
+Ends words input outlet other = IsPrinted words input outlet other

@@ -9,7 +9,6 @@ use Rattle.text_rows.specs.Lines.{free_lines}
 use Rattle.cpog_base.specs.declared.status.Status.{Status}
 use Rattle.cpog_base.specs.declared.status.Status.TheVariants as status
 use Rattle.cpog_defs.specs.Orders.{Order}
-use Rattle.cpog_outside.specs.Room.{HasRoom}
 use Rattle.pg_text.specs.Contents.{Contents}
 use Rattle.pg_text.specs.Text.{IsFileOf}
 use Rattle.pg_normal.specs.Naming.{name_faults}
@@ -24,7 +23,7 @@ use Rattle.pg_normal.specs.Denoting.{stated_in}
 use Rattle.cpog_app.specs.Ordered.{AreOrdersIn}
 use Rattle.scenario_check.specs.Equals.{AreDifferent}
 use Rattle.cpog_app.specs.Answers.{IsReportStatus}
-use Rattle.cpog_app.specs.Allowed.{Input, IsAllowed, Ends}
+use Rattle.cpog_app.specs.Allowed.{Input, Outlet, Ends}
 use Rattle.cpog_app.specs.Judged.{SpellRefutation}
 
 -- names are in order; there are scenarios, each bound and with no operation before itself, no two are equal, and there
@@ -80,17 +79,6 @@ IsAnswered other s = s ≡ status.Ok
 
 -- a good run in which no end fails is ended by its whole output, or by want of memory
 abbrev pub RunsAreComplete : Type 0
-RunsAreComplete = (words : List (List ℕ)) (told : List ℕ) (input : Input) (room : Option ℕ) (taken taken_after : Option (List ℕ)) (s : Status) →
-    input.left ≡ Some told → IsGoodRun words told → Ends words input room taken taken_after s →
+RunsAreComplete = (words : List (List ℕ)) (told : List ℕ) (input : Input) (outlet : Outlet) (s : Status) →
+    input.left ≡ Some told → IsGoodRun words told → Ends words input outlet s →
     s ≢ status.ReadFault → s ≢ status.WriteFault → IsAnswered (command_of words) s ⊎ (s ≡ status.Memory)
-
--- an output that the words and the input allow, and for which a sink has no room
-pub record OutgrowsRoom (words : List (List ℕ)) (input : Input) (room : Option ℕ) : Type 0 where
-  pub status : Status
-  pub output : List ℕ
-  pub allowed : IsAllowed words input status output
-  pub no_room : ¬ HasRoom room (length output)
-
--- the count of a sink's faults stays, or it has no room for an allowed output
-abbrev pub StaysQuiet : List (List ℕ) → Input → Option ℕ → ℕ → ℕ → Type 0
-StaysQuiet words input room faults faults_after = (faults_after ≡ faults) ⊎ OutgrowsRoom words input room

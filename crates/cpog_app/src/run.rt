@@ -4,7 +4,7 @@ ghost use Rattle.std.specs.String.{string_bytes};
 ghost use Rattle.cpog_outside.specs.Causes.{Rose};
 ghost use Rattle.cpog_outside.specs.Told.{LosesFront};
 ghost use Rattle.cpog_app.specs.Allowed.{Ends};
-ghost use Rattle.cpog_app.specs.Complete.{IsGoodRun, IsAnswered, OutgrowsRoom, StaysQuiet};
+ghost use Rattle.cpog_app.specs.Complete.{IsGoodRun, IsAnswered};
 ghost use Rattle.cpog_app.specs.Words.{command_of};
 
 use crate::answer::make_answer;
@@ -26,9 +26,11 @@ pub fn run_cpog<S: Source, K: Sink>(
     sink: &mut K,
 ) -> Status
     // What was printed is what the words and the input allow at this status: whole, or a front of it where the sink failed.
+    // A sink with room for it doesn't fail.
     ensures ends { Ends (map string_bytes words.now)
         (record { left = S.left source.old; left_after = S.left source.new; faults = S.faults source.old; faults_after = S.faults source.new; steady = S.steady source.old })
-        (K.room sink.old) (K.taken sink.old) (K.taken sink.new) result }
+        (record { taken = K.taken sink.old; taken_after = K.taken sink.new; faults = K.faults sink.old; faults_after = K.faults sink.new; room = K.room sink.old })
+        result }
 
     // A fault comes only where the outside failed in this call.
     ensures read_fault { result ≡ Status.ReadFault → Rose (S.faults source.old) (S.faults source.new) }
@@ -37,15 +39,9 @@ pub fn run_cpog<S: Source, K: Sink>(
     // What is left of the input ended it before.
     ensures left { LosesFront (S.left source.old) (S.left source.new) }
 
-    // A steady source doesn't fail, nor does a sink that has room for the allowed output.
+    // A steady source doesn't fail.
     ensures steady { IsTrue (S.steady source.old) → result ≢ Status.ReadFault }
     ensures quiet_source { IsTrue (S.steady source.old) → S.faults source.new ≡ S.faults source.old }
-    ensures room { result ≡ Status.WriteFault → OutgrowsRoom (map string_bytes words.now)
-        (record { left = S.left source.old; left_after = S.left source.new; faults = S.faults source.old; faults_after = S.faults source.new; steady = S.steady source.old })
-        (K.room sink.old) }
-    ensures quiet_sink { StaysQuiet (map string_bytes words.now)
-        (record { left = S.left source.old; left_after = S.left source.new; faults = S.faults source.old; faults_after = S.faults source.new; steady = S.steady source.old })
-        (K.room sink.old) (K.faults sink.old) (K.faults sink.new) }
 
     // Where no refusal has a cause and no count rises, it is the whole answer or want of memory.
     ensures complete { (told : List ℕ) → S.left source.old ≡ Some told → IsGoodRun (map string_bytes words.now) told →
@@ -59,18 +55,13 @@ pub fn run_cpog<S: Source, K: Sink>(
 fn run<S: Source, K: Sink>(alloc: Global, words: &[String], source: &mut S, sink: &mut K) -> Status
     ensures ends { Ends (map string_bytes words.now)
         (record { left = S.left source.old; left_after = S.left source.new; faults = S.faults source.old; faults_after = S.faults source.new; steady = S.steady source.old })
-        (K.room sink.old) (K.taken sink.old) (K.taken sink.new) result }
+        (record { taken = K.taken sink.old; taken_after = K.taken sink.new; faults = K.faults sink.old; faults_after = K.faults sink.new; room = K.room sink.old })
+        result }
     ensures read_fault { result ≡ Status.ReadFault → Rose (S.faults source.old) (S.faults source.new) }
     ensures write_fault { result ≡ Status.WriteFault → Rose (K.faults sink.old) (K.faults sink.new) }
     ensures left { LosesFront (S.left source.old) (S.left source.new) }
     ensures steady { IsTrue (S.steady source.old) → result ≢ Status.ReadFault }
     ensures quiet_source { IsTrue (S.steady source.old) → S.faults source.new ≡ S.faults source.old }
-    ensures room { result ≡ Status.WriteFault → OutgrowsRoom (map string_bytes words.now)
-        (record { left = S.left source.old; left_after = S.left source.new; faults = S.faults source.old; faults_after = S.faults source.new; steady = S.steady source.old })
-        (K.room sink.old) }
-    ensures quiet_sink { StaysQuiet (map string_bytes words.now)
-        (record { left = S.left source.old; left_after = S.left source.new; faults = S.faults source.old; faults_after = S.faults source.new; steady = S.steady source.old })
-        (K.room sink.old) (K.faults sink.old) (K.faults sink.new) }
 {
     match make_answer(alloc, words, source) {
         Ok(answer) => match write_all(sink, answer.output.as_slice()) {

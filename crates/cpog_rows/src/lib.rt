@@ -1,7 +1,7 @@
 //! Whole runs of the program over a source and a sink in memory, as tests: a table for each subject, with what is
 //! printed for each input. They show that runs succeed where memory is there, and that the printed texts are the ones
-//! that the format promises. One caller is proved: over ends in memory no run fails. Every crate stands below; nothing is
-//! built on this one.
+//! that the format promises. One caller is proved: over ends in memory a run fails only where its output has
+//! no room. Every crate stands below; nothing is built on this one.
 #![tactic(auto)]
 
 mod in_memory;
