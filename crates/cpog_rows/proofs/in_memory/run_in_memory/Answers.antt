@@ -1,4 +1,4 @@
-use Rattle.std.proofs.Common.{◌≡◌, ◌≢◌, ℕ, ◌≤◌, List, [], length, length-append, map, Some, tt, refl, ap, arith}
+use Rattle.std.proofs.Common.{◌≡◌, ◌≢◌, ℕ, ◌+◌, ◌≤◌, List, [], length, length-append, map, Some, refl, ap, arith}
 use Rattle.std.specs.String.{string_bytes}
 use Rattle.cpog_base.specs.declared.status.Status.{Status}
 use Rattle.cpog_base.specs.declared.status.Status.TheVariants as status
@@ -23,7 +23,7 @@ module _ (words : List (List ℕ)) (input : Input) (s : SinkStore) (after : List
 
 pub returns-clause-complete : goal.returns-clause-complete
 returns-clause-complete c = λ written.
-    laws.complete (map string_bytes c.args.words.now) c.args.source.now _ _ c.run_cpog.result refl c.requires.good c.run_cpog.ensures.ends (c.run_cpog.ensures.steady tt) written
+    laws.complete (map string_bytes c.args.words.now) c.args.source.now _ _ c.run_cpog.result refl c.requires.good c.run_cpog.ensures.ends (c.run_cpog.ensures.steady refl) written
 
 pub returns-clause-quiet : goal.returns-clause-quiet
 returns-clause-quiet c = λ written none within.
