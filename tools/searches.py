@@ -11,12 +11,11 @@ import re
 import shutil
 import subprocess
 import tempfile
-import time
 from typing import NamedTuple
 
 import texts
 from report_rule import GATES_END, Log, Report, read_report
-from runs import TOP
+from runs import TOP, run_once, said_file
 from steps import Step, spent
 
 BUDGET = 2_000_000
@@ -45,7 +44,7 @@ def cases() -> list[Case]:
 
 
 class Searched(NamedTuple):
-    """What a search came to: its report, and its seconds."""
+    """What a search came to: its report, and its seconds of processor time."""
 
     report: Report
     seconds: float
@@ -63,9 +62,11 @@ class Searched(NamedTuple):
 
 def search(program: str, case: Case) -> Searched:
     """Runs the program on a text."""
-    start = time.monotonic()
-    run = subprocess.run([program, "synth"], input=case.text, stdout=subprocess.PIPE, check=True)
-    return Searched(read_report(run.stdout.decode("latin-1")), time.monotonic() - start)
+    with tempfile.TemporaryDirectory() as folder:
+        path = pathlib.Path(folder) / "text"
+        path.write_bytes(case.text)
+        run = run_once([program, "synth"], str(path))
+        return Searched(read_report(said_file(str(path)).read_text(encoding="latin-1")), run.seconds)
 
 
 # ---- another solver
