@@ -1,0 +1,5 @@
+pub mod Words
+pub mod Position
+pub mod Reading
+pub mod FirstBad
+pub mod Either
