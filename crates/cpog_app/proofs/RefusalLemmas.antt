@@ -1,5 +1,5 @@
 -- The refusals of a file, out of what is known of it.
-use Rattle.std.proofs.Common.{◌≡◌, ◌≢◌, ℕ, ◌<◌, ◌≤◌, List, [], ◌∷◌, map, length, slice_get, Some, refl, sym, ap, ◌∙◌, arith}
+use Rattle.std.proofs.Common.{◌≡◌, ◌≢◌, ℕ, ◌<◌, ◌≤◌, List, [], ◌∷◌, map, length, slice_get, Some, refl, sym, ap, ◌∙◌, arith, inl, inr}
 use Rattle.std.specs.Prelude.{IsSomeAnd, Result, Ok, Err, IfErr}
 use Rattle.std.proofs.lemmas.List.{length-map}
 use Rattle.std.proofs.lemmas.Option.{slice_get_within}
@@ -18,7 +18,8 @@ use Rattle.cpog_app.specs.Refusal.{At, Tells}
 use Rattle.pg_normal.specs.Denoting.{Stated, stated_in, scenario_names_of, AreScenariosOf, IsFirstUnbound}
 use Rattle.cpog_app.specs.Ordered.{AreOrdersIn}
 use Rattle.scenario_check.specs.Cycles.{IsFirstCyclic}
-use Rattle.cpog_app.specs.Refusals.{IsUnboundAnswer, IsCyclicAnswer, IsEqualAnswer}
+use Rattle.cpog_app.specs.declared.encodable.CodeLength.{CodeLength}
+use Rattle.cpog_app.specs.Refusals.{IsUnboundAnswer, IsCyclicAnswer, IsEqualAnswer, IsOrdersRefusal, IsEncodingRefusal}
 use Rattle.cpog_app.specs.Stops.{IsStop}
 use Rattle.cpog_app.proofs.ListLemmas.{some_at}
 use Rattle.cpog_app.proofs.DenotingLemmas.{length-denoted}
@@ -30,6 +31,13 @@ use Rattle.cpog_app.proofs.ReportLemmas.{names_each, operation_below}
 pub stop_map : (Answers Others : Status → List ℕ → Type 0) → ((s : Status) (x : List ℕ) → Answers s x → Others s x) → (e : Stop) → IsStop Answers e → IsStop Others e
 stop_map Answers Others step (stop.Refused answer) h = step answer.status answer.output.items h
 stop_map Answers Others step stop.Memory h = tt
+
+-- a file that has no orders of which no two are equal can't be encoded
+pub orders_refused : (asked : CodeLength) (f : Contents) (s : Status) (x : List ℕ) → IsOrdersRefusal f s x → IsEncodingRefusal asked f s x
+orders_refused asked f s x (inl h) = inr (inl h)
+orders_refused asked f s x (inr (inl h)) = inr (inr (inl h))
+orders_refused asked f s x (inr (inr (inl h))) = inr (inr (inr (inl h)))
+orders_refused asked f s x (inr (inr (inr h))) = inr (inr (inr (inr (inl h))))
 
 -- an element that is known of stands in the list
 there : {X : Type 0} (P : X → Type 0) (xs : List X) (k : ℕ) → IsSomeAnd (slice_get xs k) P → k < length xs

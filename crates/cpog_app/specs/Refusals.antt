@@ -108,7 +108,15 @@ pub record IsManyAnswer (asked : CodeLength) (f : Contents) (output : List ℕ) 
   pub many : 2 ^ bits < length orders
   pub output_is : output ≡ refusal_text (refusal.Limit counted.Bits bits)
 
--- one of these, in this order
+-- one of these, in this order: the file has no orders of which no two are equal
+abbrev pub IsOrdersRefusal : Contents → Status → List ℕ → Type 0
+IsOrdersRefusal f s output =
+    At status.Names (IsEmptyAnswer f) s output
+    ⊎ (At status.Names (IsUnboundAnswer f) s output
+    ⊎ (At status.Cyclic (IsCyclicAnswer f) s output
+    ⊎ At status.Equal (IsEqualAnswer f) s output))
+
+-- the same, and then that there are too few codes
 abbrev pub IsScenarioRefusal : CodeLength → Contents → Status → List ℕ → Type 0
 IsScenarioRefusal asked f s output =
     At status.Names (IsEmptyAnswer f) s output

@@ -7,7 +7,7 @@ ghost use Rattle.pg_normal.specs.Denoting.{scenario_names_of, AreScenariosOf};
 ghost use Rattle.cpog_app.specs.Ordered.{AreOrdersIn};
 ghost use Rattle.cpog_app.specs.Encodable.{IsEncodable};
 ghost use Rattle.cpog_app.specs.Refusal.{At};
-ghost use Rattle.cpog_app.specs.Refusals.{IsUnboundAnswer, IsCyclicAnswer, IsEqualAnswer, IsManyAnswer, IsEncodingRefusal};
+ghost use Rattle.cpog_app.specs.Refusals.{IsUnboundAnswer, IsCyclicAnswer, IsEqualAnswer, IsManyAnswer, IsOrdersRefusal, IsEncodingRefusal};
 ghost use Rattle.cpog_app.specs.Stops.{IsStop};
 ghost use Rattle.scenario_check.specs.Equals.{AreDifferent};
 
@@ -153,6 +153,25 @@ fn code_bits(alloc: Global, asked: CodeLength, file: &File, orders: &[Order]) ->
     Ok(bits)
 }
 
+/// The orders of the scenarios that a file denotes, of which there are some and no two are equal.
+fn different_orders(alloc: Global, file: &File, scope: &Scope) -> Result<Vec<Order>, Stop>
+    requires scope { IsScopeOf file.now scope.now }
+    requires names { scope.now.scenarios ≡ scenario_names_of file.now }
+    ensures some { IfOk result (λ orders. 1 ≤ length orders.items) }
+    ensures few { IfOk result (λ orders. length orders.items ≤ SCENARIO_LIMIT) }
+    ensures orders { IfOk result (λ orders. AreOrdersIn file.now orders.items) }
+    ensures different { IfOk result (λ orders. AreDifferent orders.items) }
+    ensures err { IfErr result (IsStop (IsOrdersRefusal file.now)) }
+{
+    if scope.scenarios().is_empty() {
+        return Err(refuse(alloc, Status::Names, &Refusal::NoScenario));
+    }
+    let scenarios = scenarios_in(alloc, file, scope)?;
+    let orders = orders_in(alloc, file, scope.scenarios(), &scenarios)?;
+    check_different(alloc, file, scope.scenarios(), &orders)?;
+    Ok(orders)
+}
+
 /// What the scenarios of a file are encoded from, over as many bits as are said or as few as tell them apart.
 pub(crate) fn encodable_of(alloc: Global, asked: CodeLength, file: File) -> Result<Encodable, Stop>
     requires { MayBeLength asked }
@@ -160,12 +179,7 @@ pub(crate) fn encodable_of(alloc: Global, asked: CodeLength, file: File) -> Resu
     ensures err { IfErr result (IsStop (IsEncodingRefusal asked file)) }
 {
     let scope = names_of(alloc, &file)?;
-    if scope.scenarios().is_empty() {
-        return Err(refuse(alloc, Status::Names, &Refusal::NoScenario));
-    }
-    let scenarios = scenarios_in(alloc, &file, &scope)?;
-    let orders = orders_in(alloc, &file, scope.scenarios(), &scenarios)?;
-    check_different(alloc, &file, scope.scenarios(), &orders)?;
+    let orders = different_orders(alloc, &file, &scope)?;
     let bits = code_bits(alloc, asked, &file, &orders)?;
     Ok(Encodable {
         file,

@@ -116,13 +116,8 @@ fn put_line(out: &mut String, last: u32, line: LineRef<'_>) -> Result<u32, Alloc
     }
 }
 
-/// Writes the lines of a log behind a text. A deletion has the id of the addition before it, or 1 where there is none.
-/// After `Memory` a part of them is written.
-///
-/// # Errors
-///
-/// `Memory` where none is left.
-pub fn append_log(out: &mut String, log: &Log) -> Result<(), Memory>
+/// Writes the lines of a log, as `append_log` says.
+fn put_lines(out: &mut String, log: &Log) -> Result<(), Memory>
     ensures text { OnOk result (string_bytes out.new ≡ string_bytes out.old ++ text_of (log_lines log.now.lines)) }
     ensures fits { OnOk result (AllByRecursion LineFits log.now.lines) }
     ensures within { OnOk result (LinesWithin 2147483647 log.now.lines) }
@@ -133,6 +128,22 @@ pub fn append_log(out: &mut String, log: &Log) -> Result<(), Memory>
         last = put_line(out, last, log.line(i))?;
     }
     Ok(())
+}
+
+/// This text with the lines of a log behind it, in one buffer. A deletion has the id of the addition before it, or 1
+/// where there is none. After `Memory` the text is given up.
+///
+/// # Errors
+///
+/// `Memory` where none is left.
+pub fn append_log(mut text: String, log: &Log) -> Result<String, Memory>
+    ensures text { IfOk result (λ whole. string_bytes whole ≡ string_bytes text ++ text_of (log_lines log.now.lines)) }
+    ensures fits { OnOk result (AllByRecursion LineFits log.now.lines) }
+    ensures within { OnOk result (LinesWithin 2147483647 log.now.lines) }
+    ensures log { OnOk result (IsLog log.now) }
+{
+    put_lines(&mut text, log)?;
+    Ok(text)
 }
 
 /// The text of a log, a line for each of its lines. A deletion has the id of the addition before it, or 1 where there
@@ -147,7 +158,6 @@ pub fn write_log(alloc: Global, log: &Log) -> Result<Vec<u8>, Memory>
     ensures within { OnOk result (LinesWithin 2147483647 log.now.lines) }
     ensures spells { IfOk result (λ text. (variables : ℕ) → variables < 10000000000 → LinesWithin variables log.now.lines → SpellsLog variables log.now.first (free_lines text.items) log.now.lines) }
 {
-    let mut out = String::new(alloc);
-    append_log(&mut out, log)?;
-    Ok(out.into_bytes())
+    let text = append_log(String::new(alloc), log)?;
+    Ok(text.into_bytes())
 }

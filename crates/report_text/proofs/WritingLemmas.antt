@@ -3,7 +3,7 @@ use Rattle.std.proofs.Common.{◌≡◌, ℕ, ◌+◌, List, [], ◌∷◌, ◌+
 use Rattle.std.specs.List.{All, Contains, slice_get}
 use Rattle.std.specs.FinSet as set
 use Rattle.std.proofs.lemmas.Option.{slice_get_within, get_or_from_slice_get}
-use Rattle.std.specs.Prelude.{if◌then◌else◌, codes, Result, Ok, Err, OnOk}
+use Rattle.std.specs.Prelude.{if◌then◌else◌, codes, Result, Ok, Err, OnOk, IfOk}
 use Rattle.std.specs.Fmt.{decimal}
 use Rattle.std.proofs.lemmas.List.{append-nil, map-append, take_more, get_or_default}
 use Rattle.std.proofs.lemmas.List.Concat.{flat_map-append}
@@ -227,6 +227,11 @@ log_written head kind gates number log a o1 o2 same e1 e2 =
 -- evidence that is a report's
 pub evidence_written : (names names' : List (List ℕ)) (e e' : EvidenceValue) (a b : List ℕ) → names' ≡ names → e' ≡ e → b ≡ a ++ text_of (evidence_lines names' e') → b ≡ a ++ text_of (evidence_lines names e)
 evidence_written names names' e e' a b same same_evidence h = h ∙ ap₂ (λ ns z. a ++ text_of (evidence_lines ns z)) same same_evidence
+
+-- what holds of what a call gives, gives what is asked of it
+pub if_ok : {T E : Type 0} (r : Result T E) (P Q : T → Type 0) → ((x : T) → P x → Q x) → IfOk r P → IfOk r Q
+if_ok (Ok x) P Q f h = f x h
+if_ok (Err e) P Q f h = tt
 
 -- what holds where a call succeeds gives what is asked there
 pub on_ok : {T E : Type 0} (r : Result T E) (P Q : Type 0) → (P → Q) → OnOk r P → OnOk r Q

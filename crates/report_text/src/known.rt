@@ -1,5 +1,5 @@
 //! The lines of what is known of the least number of gates: the bound, what shows it, and what is left open.
-ghost use Rattle.std.specs.Prelude.{◌≡◌, ◌∷◌, [], List, length, map, OnOk};
+ghost use Rattle.std.specs.Prelude.{◌≡◌, ◌∷◌, [], List, length, map, IfOk, OnOk};
 ghost use Rattle.std.specs.List.{All};
 ghost use Rattle.cpog_defs.specs.declared.types.Place.{Place};
 ghost use Rattle.cpog_defs.specs.Graphs.{IsPlace};
@@ -28,25 +28,25 @@ pub(crate) fn put_bound(out: &mut String, bound: Bound) -> Result<(), AllocError
     }
 }
 
-/// Writes the lines of what shows that there are no fewer gates.
-pub(crate) fn put_evidence(
-    out: &mut String,
+/// This text with the lines of what shows that there are no fewer gates.
+pub(crate) fn append_evidence(
+    mut text: String,
     names: &Names,
     evidence: &Evidence,
-) -> Result<(), Memory>
+) -> Result<String, Memory>
     requires { (places : List Place) → evidence_of evidence.now ≡ EvidenceValue.Count places → All (IsPlace (length names.now)) places }
-    ensures text { OnOk result (Writes out.old out.new (text_of (evidence_lines names.now (evidence_of evidence.now)))) }
+    ensures text { IfOk result (λ whole. Writes text whole (text_of (evidence_lines names.now (evidence_of evidence.now)))) }
     ensures fits { OnOk result (EvidenceFits (evidence_of evidence.now)) }
 {
     match evidence {
         Evidence::Zero => {
-            out.push_str("evidence zero\n")?;
-            Ok(())
+            text.push_str("evidence zero\n")?;
+            Ok(text)
         }
         Evidence::Count(places) => {
-            out.push_str("evidence count\n")?;
-            put_places(out, names, places)?;
-            Ok(())
+            text.push_str("evidence count\n")?;
+            put_places(&mut text, names, places)?;
+            Ok(text)
         }
         Evidence::Refutation {
             template,
@@ -54,21 +54,21 @@ pub(crate) fn put_evidence(
             log,
         } => {
             let number = template_number(*template);
-            write!(out, "evidence refutation {number} {gates}\n")?;
-            put_log(out, log)
+            write!(text, "evidence refutation {number} {gates}\n")?;
+            append_closed_log(text, log)
         }
     }
 }
 
-/// Writes the lines of what is left open.
-pub(crate) fn put_open(out: &mut String, open_part: &OpenPart) -> Result<(), Memory>
-    ensures text { OnOk result (Writes out.old out.new (text_of (open_lines (open_of open_part.now)))) }
+/// This text with the lines of what is left open.
+pub(crate) fn append_open(mut text: String, open_part: &OpenPart) -> Result<String, Memory>
+    ensures text { IfOk result (λ whole. Writes text whole (text_of (open_lines (open_of open_part.now)))) }
     ensures fits { OnOk result (OpenFits (open_of open_part.now)) }
 {
     match open_part {
         OpenPart::Closed => {
-            out.push_str("open none\n")?;
-            Ok(())
+            text.push_str("open none\n")?;
+            Ok(text)
         }
         OpenPart::Log {
             template,
@@ -76,13 +76,13 @@ pub(crate) fn put_open(out: &mut String, open_part: &OpenPart) -> Result<(), Mem
             log,
         } => {
             let number = template_number(*template);
-            write!(out, "open log {number} {gates}\n")?;
-            put_log(out, log)
+            write!(text, "open log {number} {gates}\n")?;
+            append_closed_log(text, log)
         }
         OpenPart::Size { template, gates } => {
             let number = template_number(*template);
-            write!(out, "open size {number} {gates}\n")?;
-            Ok(())
+            write!(text, "open size {number} {gates}\n")?;
+            Ok(text)
         }
     }
 }
@@ -114,14 +114,14 @@ fn put_place(out: &mut String, names: &Names, place: Place) -> Result<(), AllocE
     }
 }
 
-/// Writes the lines of a log and the line that ends it.
-fn put_log(out: &mut String, log: &Log) -> Result<(), Memory>
-    ensures text { OnOk result (Writes out.old out.new (text_of (closed_log log.now.lines))) }
+/// This text with the lines of a log and the line that ends it.
+fn append_closed_log(text: String, log: &Log) -> Result<String, Memory>
+    ensures text { IfOk result (λ whole. Writes text whole (text_of (closed_log log.now.lines))) }
     ensures fits { OnOk result (LinesFit log.now.lines) }
 {
-    append_log(out, log)?;
-    out.push_str("end\n")?;
-    Ok(())
+    let mut text = append_log(text, log)?;
+    text.push_str("end\n")?;
+    Ok(text)
 }
 
 fn template_number(kind: Template) -> u32

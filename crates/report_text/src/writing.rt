@@ -11,7 +11,7 @@ ghost use Rattle.report_text.specs.Rows.{blank_names, scenario_row, has_row, arc
 
 use crate::Report;
 use crate::given::put_given;
-use crate::known::{put_bound, put_evidence, put_open};
+use crate::known::{append_evidence, append_open, put_bound};
 use crate::signals::{put_digits, put_ref};
 use cpog_base::{BIT_LIMIT, Memory, Names, OpId, OpSet, Pattern, Scenario};
 use cpog_defs::types::{Gate, Ref};
@@ -39,9 +39,9 @@ pub fn write_report(alloc: Global, report: &Report) -> Result<Vec<u8>, Memory>
     put_ops(&mut out, bits, report.names(), encoding.graph())?;
     put_arcs(&mut out, bits, report.names(), encoding.graph())?;
     put_bound(&mut out, report.bound())?;
-    put_evidence(&mut out, report.names(), report.evidence())?;
-    put_open(&mut out, report.open_part())?;
-    let text = append_netlist(out, report.design())?;
+    let text = append_evidence(out, report.names(), report.evidence())?;
+    let text = append_open(text, report.open_part())?;
+    let text = append_netlist(text, report.design())?;
     Ok(text.into_bytes())
 }
 

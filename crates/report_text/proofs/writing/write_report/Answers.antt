@@ -28,14 +28,14 @@ returns-clause-text c =
     c.in_ok-put_ops.ensures
     c.in_ok-put_arcs.ensures
     c.in_ok-put_bound.ensures
-    (evidence_written c.args.report.now.names c.names-3.result.now c.args.report.now.evidence (evidence_of c.evidence.result.now) _ _ c.names-3.ensures c.evidence.ensures c.in_ok-put_evidence.ensures.text)
-    c.in_ok-put_open.ensures.text
-    c.in_ok-text.ensures
+    (evidence_written c.args.report.now.names c.names-3.result.now c.args.report.now.evidence (evidence_of c.evidence.result.now) _ _ c.names-3.ensures c.evidence.ensures c.in_ok-text.ensures.text)
+    c.in_ok-text-2.ensures.text
+    c.in_ok-text-3.ensures
 
 pub returns-clause-fits : goal.returns-clause-fits
-returns-clause-fits c = (subst EvidenceFits c.evidence.ensures c.in_ok-put_evidence.ensures.fits, subst OpenFits c.open_part.ensures c.in_ok-put_open.ensures.fits)
+returns-clause-fits c = (subst EvidenceFits c.evidence.ensures c.in_ok-text.ensures.fits, subst OpenFits c.open_part.ensures c.in_ok-text-2.ensures.fits)
 
-pub put_evidence-requires : goal.put_evidence-requires
-put_evidence-requires c places e =
+pub append_evidence-requires : goal.append_evidence-requires
+append_evidence-requires c places e =
     places_of c.args.report.now.names c.names-3.result.now (gate_limit c.args.report.now.version) c.args.report.now.evidence places
     c.bits-bits.ensures.report.evidence c.names-3.ensures (sym c.evidence.ensures ∙ e)

@@ -8,7 +8,7 @@ use Rattle.dimacs_text.specs.Writing.{written_lines, LineFits, LinesWithin}
 use Rattle.proof_check.specs.Refs.{line_of_ref}
 use Rattle.dimacs_text.proofs.LogTextLemmas.{last_push}
 use Rattle.dimacs_text.proofs.WritingLemmas.{lines_more, one_more, fit_more, within_more}
-use Rattle.dimacs_text.proofs.writing.append_log.Goals as goal
+use Rattle.dimacs_text.proofs.writing.put_lines.Goals as goal
 
 pub lines-preserved : goal.lines-preserved
 lines-preserved c =

@@ -3,7 +3,7 @@ use Rattle.std.specs.List.{AllByRecursion}
 use Rattle.line_text.specs.Lines.{text_of}
 use Rattle.proof_check.specs.Lines.{last_id}
 use Rattle.dimacs_text.specs.Writing.{written_lines, LineFits, LinesWithin}
-use Rattle.dimacs_text.proofs.writing.append_log.Given as goal
+use Rattle.dimacs_text.proofs.writing.put_lines.Given as goal
 
 abbrev pub invariant-lines : goal.invariant-lines
 invariant-lines l = record {
