@@ -12,23 +12,24 @@ use Rattle.pg_text.specs.Contents.{Contents}
 use Rattle.pg_text.specs.Lines.{graph_lines}
 use Rattle.pg_text.specs.Text.{IsGoodLine}
 use Rattle.pg_text.proofs.TextLaws.{one_file, one_first_bad, one_fault, file_has_no_fault}
-use Rattle.cpog_app.specs.declared.refusal.Refusal.TheVariants as refusal
-use Rattle.cpog_app.specs.declared.words.Command.{Command}
-use Rattle.cpog_app.specs.declared.words.Command.TheVariants as command
-use Rattle.cpog_app.specs.Words.{command_of}
-use Rattle.cpog_app.specs.Refusal.{refusal_text, At}
-use Rattle.cpog_app.specs.Refusals.{IsBadLineAnswer, IsPassedAnswer}
-use Rattle.cpog_app.specs.Answers.{IsSynthAnswer, IsNormalAnswer, IsCnfAnswer}
-use Rattle.cpog_app.specs.Solved.{IsSolveAnswer}
-use Rattle.cpog_app.specs.Allowed.{IsAnswerOfFile, IsGraphTextAnswer, Input, IsAnswerToAll, IsLongAnswer, IsReadingAnswer, IsCommandAnswer, IsWordsAnswer, IsAllowed, Outlet, Ends}
-use Rattle.cpog_app.specs.Complete.{SpellFile, AreGoodFor, IsGoodRun, IsAnswered, RunsAreComplete}
+use Rattle.refusal_lines.specs.declared.refusal.Refusal.TheVariants as refusal
+use Rattle.command_words.specs.declared.words.Command.{Command}
+use Rattle.command_words.specs.declared.words.Command.TheVariants as command
+use Rattle.command_words.specs.Words.{command_of}
+use Rattle.refusal_lines.specs.Refusal.{refusal_text, At}
+use Rattle.graph_answers.specs.Refusals.{IsBadLineAnswer, IsPassedAnswer}
+use Rattle.graph_answers.specs.Answers.{IsSynthAnswer, IsNormalAnswer, IsCnfAnswer, IsAnswerOfFile, IsGraphTextAnswer}
+use Rattle.formula_answers.specs.Solved.{IsSolveAnswer}
+use Rattle.cpog_app.specs.Allowed.{Input, IsAnswerToAll, IsLongAnswer, IsReadingAnswer, IsCommandAnswer, IsWordsAnswer, IsAllowed, Outlet, Ends}
+use Rattle.cpog_app.specs.Complete.{AreGoodFor, IsGoodRun, IsAnswered, RunsAreComplete}
+use Rattle.graph_answers.specs.Good.{SpellFile}
 use Rattle.cpog_app.specs.Laws.{AreAlike, AllowedAgree}
-use Rattle.cpog_app.proofs.Causes.{Cause, Agree, IsOne, AreApart, either, one_at, one_either}
-use Rattle.cpog_app.specs.Judged.{IsLratAnswer}
-use Rattle.cpog_app.proofs.JudgedAgreement.{lrat_answers_agree, lrat_is_ok}
-use Rattle.cpog_app.proofs.FormulaAgreement.{cnf_answers_agree, cnf_is_ok}
-use Rattle.cpog_app.proofs.SolvedAgreement.{solve_answers_alike, solve_is_ok}
-use Rattle.cpog_app.proofs.FileAgreement.{synth_answers_alike, normal_answers_agree, synth_is_answered, normal_is_ok}
+use Rattle.refusal_lines.proofs.Causes.{Cause, Agree, IsOne, AreApart, either, one_at, one_either}
+use Rattle.formula_answers.specs.Judged.{IsLratAnswer}
+use Rattle.formula_answers.proofs.JudgedAgreement.{lrat_answers_agree, lrat_is_ok}
+use Rattle.graph_answers.proofs.FormulaAgreement.{cnf_answers_agree, cnf_is_ok}
+use Rattle.formula_answers.proofs.SolvedAgreement.{solve_answers_alike, solve_is_ok}
+use Rattle.graph_answers.proofs.FileAgreement.{synth_answers_alike, normal_answers_agree, synth_is_answered, normal_is_ok}
 
 -- ---- one answer to a text
 

@@ -8,20 +8,20 @@ use Rattle.cpog_base.specs.declared.status.Status.{Status}
 use Rattle.cpog_base.specs.declared.status.Status.TheVariants as status
 use Rattle.cpog_outside.specs.Room.{HasRoom}
 use Rattle.pg_text.specs.Contents.{Contents}
-use Rattle.cpog_app.specs.declared.encodable.CodeLength.{CodeLength}
-use Rattle.cpog_app.specs.declared.words.CnfOptions.{CnfOptions}
-use Rattle.cpog_app.specs.declared.words.SynthOptions.{SynthOptions}
-use Rattle.cpog_app.specs.declared.words.Command.{Command}
-use Rattle.cpog_app.specs.declared.words.Command.TheVariants as command
-use Rattle.cpog_app.specs.Words.{command_of}
-use Rattle.cpog_app.specs.Bits.{synth_length, cnf_length}
-use Rattle.cpog_app.specs.Refusal.{At}
-use Rattle.cpog_app.specs.Refusals.{IsEncodingRefusal}
-use Rattle.cpog_app.specs.Answers.{IsSynthAnswer, IsNormalAnswer, IsCnfAnswer}
-use Rattle.cpog_app.specs.Judged.{IsLratAnswer}
-use Rattle.cpog_app.specs.Solved.{IsSolveAnswer}
-use Rattle.cpog_app.specs.Allowed.{Input, IsFaultAnswer, IsGraphTextAnswer, IsReadingAnswer, IsCommandAnswer, IsWordsAnswer, IsAllowed, Outlet, IsPrinted, Ends}
-use Rattle.cpog_app.proofs.Causes.{Cause}
+use Rattle.graph_answers.specs.declared.encodable.CodeLength.{CodeLength}
+use Rattle.command_words.specs.declared.words.CnfOptions.{CnfOptions}
+use Rattle.command_words.specs.declared.words.SynthOptions.{SynthOptions}
+use Rattle.command_words.specs.declared.words.Command.{Command}
+use Rattle.command_words.specs.declared.words.Command.TheVariants as command
+use Rattle.command_words.specs.Words.{command_of}
+use Rattle.graph_answers.specs.Bits.{synth_length, cnf_length}
+use Rattle.refusal_lines.specs.Refusal.{At}
+use Rattle.graph_answers.specs.Refusals.{IsEncodingRefusal}
+use Rattle.graph_answers.specs.Answers.{IsSynthAnswer, IsNormalAnswer, IsCnfAnswer, IsGraphTextAnswer}
+use Rattle.formula_answers.specs.Judged.{IsLratAnswer}
+use Rattle.formula_answers.specs.Solved.{IsSolveAnswer}
+use Rattle.cpog_app.specs.Allowed.{Input, IsFaultAnswer, IsReadingAnswer, IsCommandAnswer, IsWordsAnswer, IsAllowed, Outlet, IsPrinted, Ends}
+use Rattle.refusal_lines.proofs.Causes.{Cause}
 
 -- a status that no end and no want of memory gives
 abbrev is_made : Status → Bool

@@ -8,29 +8,14 @@ use Rattle.cpog_base.specs.declared.status.Status.TheVariants as status
 use Rattle.cpog_outside.specs.Causes.{Rose}
 use Rattle.cpog_outside.specs.Room.{HasRoom}
 use Rattle.cpog_outside.specs.Told.{IsAllOf, IsLonger, TakesFront}
-use Rattle.pg_text.specs.Contents.{Contents}
-use Rattle.pg_text.specs.Text.{IsFileOf}
-use Rattle.cpog_app.specs.declared.refusal.Refusal.TheVariants as refusal
-use Rattle.cpog_app.specs.declared.words.Command.{Command}
-use Rattle.cpog_app.specs.declared.words.Command.TheVariants as command
-use Rattle.cpog_app.specs.Words.{command_of}
-use Rattle.cpog_app.specs.Refusal.{refusal_text, At}
-use Rattle.cpog_app.specs.Refusals.{IsTextRefusal}
-use Rattle.cpog_app.specs.Answers.{IsSynthAnswer, IsNormalAnswer, IsCnfAnswer}
-use Rattle.cpog_app.specs.Judged.{IsLratAnswer}
-use Rattle.cpog_app.specs.Solved.{IsSolveAnswer}
-
--- ---- what is printed for a graph text
-
--- the answer to the file that the text spells
-pub record IsAnswerOfFile (OfFile : Contents → Status → List ℕ → Type 0) (bytes : List ℕ) (s : Status) (output : List ℕ) : Type 0 where
-  pub file : Contents
-  pub is_file : IsFileOf bytes file
-  pub answer : OfFile file s output
-
--- the answers to a graph text, out of those to its file
-abbrev pub IsGraphTextAnswer : (Contents → Status → List ℕ → Type 0) → List ℕ → Status → List ℕ → Type 0
-IsGraphTextAnswer OfFile bytes s output = IsTextRefusal bytes s output ⊎ IsAnswerOfFile OfFile bytes s output
+use Rattle.refusal_lines.specs.declared.refusal.Refusal.TheVariants as refusal
+use Rattle.command_words.specs.declared.words.Command.{Command}
+use Rattle.command_words.specs.declared.words.Command.TheVariants as command
+use Rattle.command_words.specs.Words.{command_of}
+use Rattle.refusal_lines.specs.Refusal.{refusal_text, At}
+use Rattle.graph_answers.specs.Answers.{IsGraphTextAnswer, IsSynthAnswer, IsNormalAnswer, IsCnfAnswer}
+use Rattle.formula_answers.specs.Judged.{IsLratAnswer}
+use Rattle.formula_answers.specs.Solved.{IsSolveAnswer}
 
 -- ---- what is printed for words and a source
 

@@ -1,11 +1,12 @@
 -- Laws of what a run may print.
-use Rattle.std.specs.Prelude.{◌≡◌, ◌≢◌, ◌⊎◌, ℕ, List, Option, Some}
+use Rattle.std.specs.Prelude.{◌≡◌, ◌≢◌, ℕ, List, Option, Some}
 use Rattle.cpog_base.specs.declared.status.Status.{Status}
 use Rattle.cpog_base.specs.declared.status.Status.TheVariants as status
-use Rattle.cpog_app.specs.declared.words.Command.{Command}
-use Rattle.cpog_app.specs.declared.words.Command.TheVariants as command
-use Rattle.cpog_app.specs.Words.{command_of}
-use Rattle.cpog_app.specs.Answers.{IsReportStatus}
+use Rattle.command_words.specs.declared.words.Command.{Command}
+use Rattle.command_words.specs.declared.words.Command.TheVariants as command
+use Rattle.command_words.specs.Words.{command_of}
+use Rattle.refusal_lines.specs.Alike.{AreOneOrFound}
+use Rattle.graph_answers.specs.Answers.{IsReportStatus}
 use Rattle.cpog_app.specs.Allowed.{Input, IsAllowed}
 
 -- the statuses at which words print what a search found
@@ -16,7 +17,7 @@ IsFind other s = ⊥
 
 -- two answers have one status and one output; or each is what its search found
 abbrev pub AreAlike : Option Command → Status → List ℕ → Status → List ℕ → Type 0
-AreAlike words s x t y = ((s ≡ t) × (x ≡ y)) ⊎ (IsFind words s × IsFind words t)
+AreAlike words = AreOneOrFound (IsFind words)
 
 -- two answers to the same words and told bytes that are no read fault are alike
 abbrev pub AllowedAgree : Type 0

@@ -1,17 +1,3 @@
-pub mod Words
-pub mod Bits
-pub mod Refusal
-pub mod Ordered
-pub mod Synthesis
-pub mod Formula
-pub mod Printed
-pub mod Refusals
-pub mod Encodable
-pub mod Stops
-pub mod Answers
-pub mod Judged
-pub mod Solved
-pub mod Written
 pub mod Allowed
 pub mod Laws
 pub mod Complete

@@ -2,18 +2,18 @@
 ghost use Rattle.std.specs.Prelude.{◌≡◌, ◌≤◌, IfOk, IfErr, IsTrue, map, length};
 ghost use Rattle.std.specs.String.{string_bytes};
 ghost use Rattle.cpog_outside.specs.Told.{IsAllOf, LosesFront};
-ghost use Rattle.cpog_app.specs.Bits.{MayBeNamed};
+ghost use Rattle.command_words.specs.Ranges.{MayBeNamed};
 ghost use Rattle.cpog_app.specs.Allowed.{IsReadRefusal, IsCommandAnswer, IsAllowed};
-ghost use Rattle.cpog_app.specs.Stops.{IsStop};
+ghost use Rattle.refusal_lines.specs.Stops.{IsStop};
 
-use crate::cnf::answer_cnf;
-use crate::lrat::answer_lrat;
-use crate::normal::answer_normal;
-use crate::refusal::Refusal;
-use crate::solve::answer_solve;
-use crate::stop::{Answer, Stop, refuse};
-use crate::synth::answer_synth;
-use crate::words::{Command, read_words};
+use graph_answers::answer_cnf;
+use formula_answers::answer_lrat;
+use graph_answers::answer_normal;
+use refusal_lines::Refusal;
+use formula_answers::answer_solve;
+use refusal_lines::{Answer, Stop, refuse};
+use graph_answers::answer_synth;
+use command_words::{Command, read_words};
 use cpog_base::{Counted, INPUT_LIMIT, LONG_INPUT_LIMIT, Memory, Status};
 use cpog_outside::{ReadAllFault, Source, read_all};
 use std::alloc::Global;

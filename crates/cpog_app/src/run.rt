@@ -5,7 +5,7 @@ ghost use Rattle.cpog_outside.specs.Causes.{Rose};
 ghost use Rattle.cpog_outside.specs.Told.{LosesFront};
 ghost use Rattle.cpog_app.specs.Allowed.{Ends};
 ghost use Rattle.cpog_app.specs.Complete.{IsGoodRun, IsAnswered};
-ghost use Rattle.cpog_app.specs.Words.{command_of};
+ghost use Rattle.command_words.specs.Words.{command_of};
 
 use crate::answer::make_answer;
 use cpog_base::Status;

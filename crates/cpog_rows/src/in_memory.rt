@@ -3,7 +3,7 @@
 ghost use Rattle.std.specs.Prelude.{◌≡◌, ◌≢◌, ◌⊎◌, ◌≤◌, [], length, map, true, Some};
 ghost use Rattle.std.specs.String.{string_bytes};
 ghost use Rattle.cpog_outside.specs.Stores.{room_of};
-ghost use Rattle.cpog_app.specs.Words.{command_of};
+ghost use Rattle.command_words.specs.Words.{command_of};
 ghost use Rattle.cpog_app.specs.Allowed.{Ends};
 ghost use Rattle.cpog_app.specs.Complete.{IsGoodRun, IsAnswered};
 

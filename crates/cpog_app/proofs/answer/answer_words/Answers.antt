@@ -1,6 +1,6 @@
 use Rattle.std.proofs.Common.{map, sym, ◌∙◌}
 use Rattle.std.specs.String.{string_bytes}
-use Rattle.cpog_app.proofs.WordLemmas.{may_be_named}
+use Rattle.command_words.proofs.WordLemmas.{may_be_named}
 use Rattle.cpog_app.proofs.answer.answer_words.Goals as goal
 
 pub answer_command-requires : goal.answer_command-requires

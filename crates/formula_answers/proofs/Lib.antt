@@ -1,0 +1,3 @@
+pub mod JudgedAgreement
+pub mod SolvedLemmas
+pub mod SolvedAgreement

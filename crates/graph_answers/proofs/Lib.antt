@@ -1,0 +1,14 @@
+pub mod ListLemmas
+pub mod StatedLemmas
+pub mod DenotingLemmas
+pub mod FileNames
+pub mod ArcLemmas
+pub mod BitLemmas
+pub mod PatternLemmas
+pub mod ReportLemmas
+pub mod PrintedLemmas
+pub mod OrderAgreement
+pub mod RefusalLemmas
+pub mod FileAgreement
+pub mod FormulaLemmas
+pub mod FormulaAgreement

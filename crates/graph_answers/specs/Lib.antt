@@ -1,0 +1,9 @@
+pub mod Bits
+pub mod Ordered
+pub mod Synthesis
+pub mod Formula
+pub mod Printed
+pub mod Refusals
+pub mod Encodable
+pub mod Answers
+pub mod Good
