@@ -1,0 +1,52 @@
+-- What is proved of good reports and of reasons.
+use Rattle.std.specs.Prelude.{◌≡◌, ℕ, ◌≤◌, ◌^◌, List, length}
+use Rattle.std.specs.List.{All}
+use Rattle.cpog_defs.specs.Orders.{Order, IsOrderOf}
+use Rattle.cpog_defs.specs.Scenarios.{AreOrdersOf}
+use Rattle.cpog_defs.specs.Codes.{AreCodes, KeepGivenBits}
+use Rattle.cpog_defs.specs.Encodings.{FitsScenarios, Encodes}
+use Rattle.scenario_check.specs.Equals.{AreDifferent}
+use Rattle.gate_core.specs.Bounds.{IsLowerBound}
+use Rattle.handshake_eqs.specs.Netlists.{IsNetlistOf}
+use Rattle.handshake_eqs.specs.Agreement.{AgreesOverRuns}
+use Rattle.report_text.specs.Report.{ReportValue, IsReport}
+use Rattle.report_judge.specs.declared.reason.Reason.{Reason}
+use Rattle.report_judge.specs.Known.{lower_of, IsCountOf}
+use Rattle.report_judge.specs.Good.{IsGood}
+use Rattle.report_judge.specs.Reasons.{Fails, IsFirstFailing}
+
+-- What a good report tells of its scenarios: each sentence has its field.
+pub record IsRight (r : ReportValue) : Type 0 where
+  -- the orders of its scenarios, no two of which are equal
+  pub orders : List Order
+  pub are_orders : AreOrdersOf r.scenarios orders
+  pub different : AreDifferent orders
+  -- its codes are distinct and keep the given bits
+  pub codes : AreCodes r.bits (length orders) r.encoding.codes
+  pub given_kept : KeepGivenBits r.patterns r.encoding.codes
+  -- under each code its conditions leave exactly that scenario
+  pub fits : FitsScenarios r.encoding r.scenarios
+  -- its module is the netlist of its encoding, with its names, and requests over every lawful run what is ready
+  pub module_names : r.design.names ≡ r.names
+  pub module_netlist : IsNetlistOf r.encoding r.design.netlist
+  pub agrees : AgreesOverRuns r.encoding r.design.netlist
+  -- No encoding of as many bits that keeps the given bits has fewer gates than its lower bound. The scenarios are of one
+  -- count of operations and have enough codes, and its own encoding is one of those that are compared.
+  pub lower_bound : IsLowerBound (length r.names) orders r.patterns r.bits (lower_of r.bound)
+  pub one_count : All (IsOrderOf (length r.names)) orders
+  pub enough_bits : length orders ≤ 2 ^ r.bits
+  pub compared : Encodes (length r.names) orders r.patterns r.bits r.encoding
+  -- a printed minimum is its number of gates, and a greater bound is where it isn't the lower one
+  pub attained : IsCountOf (length r.encoding.gates.gates) r.bound
+
+-- what a good report tells is so
+abbrev pub GoodReportsAreRight : Type 0
+GoodReportsAreRight = (r : ReportValue) → IsReport r → IsGood r → IsRight r
+
+-- no part of a good report fails
+abbrev pub GoodOrFailing : Type 0
+GoodOrFailing = (r : ReportValue) (reason : Reason) → IsReport r → IsGood r → Fails r reason → ⊥
+
+-- a report has one first reason
+abbrev pub OneVerdict : Type 0
+OneVerdict = (r : ReportValue) (a b : Reason) → IsReport r → IsFirstFailing r a → IsFirstFailing r b → a ≡ b
