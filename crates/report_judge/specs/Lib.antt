@@ -4,4 +4,5 @@ pub mod Fitting
 pub mod Known
 pub mod Good
 pub mod Reasons
+pub mod Steps
 pub mod Laws

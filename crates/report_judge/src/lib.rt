@@ -8,6 +8,9 @@
 //! which no encoding has gates.
 #![tactic(auto)]
 
+mod codes;
+mod fault;
+mod fitting;
 mod judging;
 mod laws;
 mod reason;
