@@ -1,13 +1,18 @@
 -- What the steps of a verdict say.
-use Rattle.std.specs.Prelude.{◌≡◌, ◌≢◌, ℕ, ◌<◌, Bool, if◌then◌else◌, List, [], ◌∷◌, length, slice_get, Option, None, Some}
+use Rattle.std.specs.Prelude.{◌≡◌, ◌≢◌, ℕ, ◌<◌, ◌≤◌, Bool, if◌then◌else◌, List, [], ◌∷◌, length, slice_get, Option, None, Some}
 use Rattle.std.specs.List.{All}
+use Rattle.cpog_base.specs.declared.limits.TheConstants.{BIT_LIMIT, SCENARIO_LIMIT}
 use Rattle.cpog_base.specs.Rows.{row_has}
+use Rattle.cpog_defs.specs.declared.types.Bit3.{Bit3}
 use Rattle.cpog_defs.specs.declared.types.OpId.{OpId}
 use Rattle.cpog_defs.specs.Orders.{Set, each_below, arc_of}
-use Rattle.cpog_defs.specs.Scenarios.{Scenario}
+use Rattle.cpog_defs.specs.Scenarios.{Scenario, AreOrdersOf}
 use Rattle.cpog_defs.specs.Graphs.{ConditionalGraph, keeps_arc}
 use Rattle.cpog_defs.specs.Encodings.{Encoding}
+use Rattle.cpog_merge.specs.Columns.{AreColumnsOf}
+use Rattle.cpog_merge.specs.Classes.{AreClassesOf}
 use Rattle.report_text.specs.Report.{ReportValue}
+use Rattle.report_judge.specs.declared.basis.Basis.{Basis}
 use Rattle.report_judge.specs.declared.fault.Fault.{Fault}
 use Rattle.report_judge.specs.declared.fault.Fault.TheVariants as faults
 use Rattle.report_judge.specs.declared.fitting.Misfit.{Misfit}
@@ -40,6 +45,23 @@ IsMisfit graph values sc (Some (misfits.Pair u v)) = IsFirstDisordered graph val
 -- the same of the scenario and the code at a place
 abbrev pub IsMisfitAt : Encoding → List Scenario → ℕ → Option Misfit → Type 0
 IsMisfitAt e scenarios s found = IsMisfit e.graph (values_at e s) (scenario_at scenarios s) found
+
+-- ---- what evidence is judged by
+
+-- the orders of the scenarios, their columns, and the classes of these, whose columns have an entry for each scenario
+pub record IsBasis (scenarios : List Scenario) (b : Basis) : Type 0 where
+  pub are_orders : AreOrdersOf scenarios b.orders.items
+  pub are_columns : AreColumnsOf b.orders.items b.table
+  pub are_classes : AreClassesOf b.table b.classes
+  pub entries : All (λ column. length column ≡ length scenarios) b.classes.columns
+
+-- what a template of these patterns and columns may be asked for with, but for its bits and gates
+pub record CanAsk (patterns : List (List Bit3)) (bits : ℕ) (columns : List (List Bit3)) : Type 0 where
+  pub some : 1 ≤ length patterns
+  pub few : length patterns ≤ SCENARIO_LIMIT
+  pub few_bits : bits ≤ BIT_LIMIT
+  pub patterns_fit : All (λ pattern. length pattern ≡ bits) patterns
+  pub columns_fit : All (λ column. length column ≡ length patterns) columns
 
 -- ---- faults
 

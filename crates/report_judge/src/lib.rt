@@ -8,12 +8,16 @@
 //! which no encoding has gates.
 #![tactic(auto)]
 
+mod basis;
 mod codes;
+mod evidence;
 mod fault;
 mod fitting;
 mod judging;
 mod laws;
+mod left_open;
 mod reason;
+mod template;
 
 pub use judging::judge;
 pub use laws::{good_or_failing, good_reports_are_right, one_verdict};
