@@ -195,6 +195,8 @@ fn misfit_at(
     requires within { s < length report.now.scenarios }
     ensures { IfOk result (IsMisfitAt report.now.encoding report.now.scenarios s) }
 {
+    // What is known of each report: a code for each scenario, and scenarios of as many operations as the graph has.
+    let _version = report.version();
     let encoding = report.encoding();
     encoding.gates().eval(encoding.codes()[s], values);
     let scenario = &report.scenarios()[s];
@@ -217,6 +219,8 @@ pub(crate) fn check_fitting(
     ensures ok { OnOk result (FitsScenarios report.now.encoding report.now.scenarios) }
     ensures err { IfErr result (IsFaultAt report.now Part.Fitting) }
 {
+    // That there are few scenarios is known of each report.
+    let _version = report.version();
     let mut values = value_room(alloc, report.encoding().gates())?;
     for s in 0..report.scenarios().len() {
         match misfit_at(alloc, report, orders, &mut values, s)? {
