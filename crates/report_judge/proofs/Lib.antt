@@ -1,2 +1,4 @@
 pub mod FittingLemmas
 pub mod ReportLemmas
+pub mod StepLemmas
+pub mod KnownLemmas

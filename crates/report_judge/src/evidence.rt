@@ -120,6 +120,7 @@ pub(crate) fn check_shown(alloc: Global, report: &Report, basis: &Basis) -> Resu
     ensures ok { OnOk result (IsShown (length report.now.names) basis.now.orders.items report.now.patterns report.now.bits basis.now.classes.columns report.now.evidence) }
     ensures err { IfErr result (IsFaultAt report.now Part.Shown) }
 {
+    let bits = report.bits();
     match report.evidence() {
         Evidence::Zero => Ok(()),
         Evidence::Count(places) => match first_no_member(basis, places) {
@@ -136,7 +137,7 @@ pub(crate) fn check_shown(alloc: Global, report: &Report, basis: &Basis) -> Resu
                 *template,
                 &basis.classes,
                 report.given(),
-                report.bits(),
+                bits,
                 *gates,
                 log,
             )?;

@@ -29,9 +29,9 @@ pub(crate) fn is_open_between(report: &Report, basis: &Basis) -> bool
         OpenPart::Closed => lo == hi,
         OpenPart::Log {
             template, gates, ..
-        } => lo < hi && *gates == lo && is_small(*template, classes, given, bits, *gates),
+        } => lo < hi && (*gates == lo && is_small(*template, classes, given, bits, *gates)),
         OpenPart::Size { template, gates } => {
-            lo < hi && *gates == lo && !is_small(*template, classes, given, bits, *gates)
+            lo < hi && (*gates == lo && !is_small(*template, classes, given, bits, *gates))
         }
     }
 }
