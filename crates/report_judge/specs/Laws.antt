@@ -45,8 +45,8 @@ GoodReportsAreRight = (r : ReportValue) → IsReport r → IsGood r → IsRight 
 
 -- no part of a good report fails
 abbrev pub GoodOrFailing : Type 0
-GoodOrFailing = (r : ReportValue) (reason : Reason) → IsReport r → IsGood r → Fails r reason → ⊥
+GoodOrFailing = (r : ReportValue) (reason : Reason) → IsGood r → Fails r reason → ⊥
 
 -- a report has one first reason
 abbrev pub OneVerdict : Type 0
-OneVerdict = (r : ReportValue) (a b : Reason) → IsReport r → IsFirstFailing r a → IsFirstFailing r b → a ≡ b
+OneVerdict = (r : ReportValue) (a b : Reason) → IsFirstFailing r a → IsFirstFailing r b → a ≡ b
