@@ -5,3 +5,4 @@ pub mod KnownLemmas
 pub mod BasisLemmas
 pub mod FirstLemmas
 pub mod FailLemmas
+pub mod RightLemmas
