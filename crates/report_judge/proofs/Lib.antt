@@ -6,3 +6,4 @@ pub mod BasisLemmas
 pub mod FirstLemmas
 pub mod FailLemmas
 pub mod RightLemmas
+pub mod SearchedLemmas

@@ -1,12 +1,16 @@
 -- What is proved of good reports and of reasons.
-use Rattle.std.specs.Prelude.{◌≡◌, ℕ, ◌≤◌, ◌^◌, List, length}
+use Rattle.std.specs.Prelude.{◌≡◌, ℕ, ◌≤◌, ◌^◌, List, length, map}
 use Rattle.std.specs.List.{All}
 use Rattle.cpog_defs.specs.Orders.{Order, IsOrderOf}
 use Rattle.cpog_defs.specs.Scenarios.{AreOrdersOf}
 use Rattle.cpog_defs.specs.Codes.{AreCodes, KeepGivenBits}
 use Rattle.cpog_defs.specs.Encodings.{FitsScenarios, Encodes}
 use Rattle.scenario_check.specs.Equals.{AreDifferent}
+use Rattle.order_reduce.specs.Scenarios.{covering_scenario}
 use Rattle.gate_core.specs.Bounds.{IsLowerBound}
+use Rattle.cpog_merge.specs.Columns.{Columns, AreColumnsOf}
+use Rattle.cpog_merge.specs.Classes.{Classes, AreClassesOf}
+use Rattle.cnf_build.specs.Evidence.{IsEvidence, IsOpenPart}
 use Rattle.handshake_eqs.specs.Netlists.{IsNetlistOf}
 use Rattle.handshake_eqs.specs.Agreement.{AgreesOverRuns}
 use Rattle.report_text.specs.Report.{ReportValue, IsReport}
@@ -50,3 +54,26 @@ GoodOrFailing = (r : ReportValue) (reason : Reason) → IsGood r → Fails r rea
 -- a report has one first reason
 abbrev pub OneVerdict : Type 0
 OneVerdict = (r : ReportValue) (a b : Reason) → IsFirstFailing r a → IsFirstFailing r b → a ≡ b
+
+-- What a search says of its report: the scenarios are the covering pairs of orders no two of which are equal; the encoding
+-- is one of them, the module its netlist, and the bound fits its gates; there is evidence for the lower bound, and an open
+-- part between the bounds.
+pub record IsSearched (r : ReportValue) : Type 0 where
+  pub orders : List Order
+  pub one_count : All (IsOrderOf (length r.names)) orders
+  pub scenarios : r.scenarios ≡ map covering_scenario orders
+  pub different : AreDifferent orders
+  pub encodes : Encodes (length r.names) orders r.patterns r.bits r.encoding
+  pub module_names : r.design.names ≡ r.names
+  pub module_netlist : IsNetlistOf r.encoding r.design.netlist
+  pub attained : IsCountOf (length r.encoding.gates.gates) r.bound
+  pub columns : Columns
+  pub are_columns : AreColumnsOf orders columns
+  pub classes : Classes
+  pub are_classes : AreClassesOf columns classes
+  pub evidence : IsEvidence (length r.names) orders r.patterns r.bits classes.columns (lower_of r.bound) r.evidence
+  pub open_part : IsOpenPart r.patterns r.bits classes.columns (lower_of r.bound) (length r.encoding.gates.gates) r.budget r.open_part
+
+-- the report of a search is good
+abbrev pub SearchedAreGood : Type 0
+SearchedAreGood = (r : ReportValue) → IsSearched r → IsGood r

@@ -1,5 +1,5 @@
 //! What is promised of good reports and of reasons.
-ghost use Rattle.report_judge.specs.Laws.{GoodReportsAreRight, GoodOrFailing, OneVerdict};
+ghost use Rattle.report_judge.specs.Laws.{GoodReportsAreRight, GoodOrFailing, OneVerdict, SearchedAreGood};
 
 /// What a good report tells is so: its codes, its conditions, its module over every run, and its bounds.
 pub fn good_reports_are_right()
@@ -14,4 +14,9 @@ pub fn good_or_failing()
 /// A report has one first reason.
 pub fn one_verdict()
     ensures { OneVerdict }
+{}
+
+/// The report of a search is good.
+pub fn searched_are_good()
+    ensures { SearchedAreGood }
 {}
