@@ -25,9 +25,9 @@ use Rattle.report_judge.specs.declared.reason.Reason.TheVariants as reasons
 use Rattle.report_judge.specs.Codes.{HaveOneCode, IsKeptAt, IsFirstSame, IsFirstLost}
 use Rattle.report_judge.specs.Fitting.{scenario_at, values_at, OperationFits, PairFits, IsPairBefore, IsFirstOther, IsFirstDisordered, FitsAt, IsFirstWrongOperation, IsFirstWrongPair}
 use Rattle.report_judge.specs.Good.{ByClasses, Holds}
-use Rattle.report_judge.specs.Known.{lower_of, template_variables, SpeaksOf, IsShown, IsMember, FailsAtMember, FailsAtLine, FailsWithoutEmpty, IsOpenBetween, OpenFollows, OpenBreaks}
+use Rattle.report_judge.specs.Known.{printed_lower, template_variables, SpeaksOf, IsShown, IsMember, FailsAtMember, FailsAtLine, FailsWithoutEmpty, IsOpenBetween, OpenFollows, OpenBreaks}
 use Rattle.report_judge.specs.Parts.{Part, place}
-use Rattle.report_judge.specs.Reasons.{AreFirstEqual, part_of, Fails, IsFirstFailing}
+use Rattle.report_judge.specs.Reasons.{HaveFirstEqual, part_of, Fails, IsFirstFailing}
 use Rattle.report_judge.proofs.BasisLemmas.{one_orders, with_both}
 use Rattle.report_judge.proofs.FirstLemmas.{one_number, one_pair, follow_or_break, one_first_break}
 use Rattle.report_judge.proofs.FittingLemmas.{same_truth}

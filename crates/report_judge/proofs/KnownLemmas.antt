@@ -31,7 +31,7 @@ use Rattle.report_text.specs.declared.version.Version.TheVariants.{One}
 use Rattle.report_text.specs.Versions.{gate_limit}
 use Rattle.report_judge.specs.declared.basis.Basis.{Basis}
 use Rattle.report_judge.specs.Good.{ByClasses}
-use Rattle.report_judge.specs.Known.{lower_of, template_variables, SpeaksOf, IsShown, member_column, IsMember, IsFirstNoMember, FailsAtMember, FailsAtLine, FailsWithoutEmpty, IsOpenBetween, OpenFollows, OpenBreaks}
+use Rattle.report_judge.specs.Known.{printed_lower, template_variables, SpeaksOf, IsShown, member_column, IsMember, IsFirstNoMember, FailsAtMember, FailsAtLine, FailsWithoutEmpty, IsOpenBetween, OpenFollows, OpenBreaks}
 use Rattle.report_judge.specs.Steps.{IsBasis}
 use Rattle.report_judge.proofs.ReportLemmas.{count_is}
 use Rattle.report_judge.proofs.StepLemmas.{by_classes}
@@ -72,12 +72,12 @@ members_count operations orders places are members = record {
 limit_few : (version : Version) → gate_limit version ≤ 65536
 limit_few One = omega arith
 
-bound_below : (limit : ℕ) (bound : Bound) → IsBound limit bound → lower_of bound < limit
+bound_below : (limit : ℕ) (bound : Bound) → IsBound limit bound → printed_lower bound < limit
 bound_below limit (Minimum h) b = b
 bound_below limit (Between lo hi) b = b.0
 
 module _ (r : ReportValue) (is : IsReport r) where
-  pub lower_below : lower_of r.bound < gate_limit r.version
+  pub lower_below : printed_lower r.bound < gate_limit r.version
   lower_below = bound_below (gate_limit r.version) r.bound is.bound
 
   -- a gate reads two inputs
@@ -108,9 +108,9 @@ module _ (r : ReportValue) (is : IsReport r) where
         (subst (IsReportEvidence (length r.names) (gate_limit r.version)) e is.evidence)
 
     -- and they are few
-    pub places_few : (places : List Place) → r.evidence ≡ EvidenceValue.Count places → SpeaksOf r.patterns r.bits b.classes.columns (lower_of r.bound) r.evidence → length places < 4294967295
+    pub places_few : (places : List Place) → r.evidence ≡ EvidenceValue.Count places → SpeaksOf r.patterns r.bits b.classes.columns (printed_lower r.bound) r.evidence → length places < 4294967295
     places_few places e speaks =
-        let size : length places ≡ lower_of r.bound + r.bits = subst (SpeaksOf r.patterns r.bits b.classes.columns (lower_of r.bound)) e speaks in
+        let size : length places ≡ printed_lower r.bound + r.bits = subst (SpeaksOf r.patterns r.bits b.classes.columns (printed_lower r.bound)) e speaks in
         omega (arith, size, limit_few r.version, lower_below, is.few_bits)
 
     -- ---- what a fault of the evidence says
@@ -144,11 +144,11 @@ module _ (r : ReportValue) (is : IsReport r) where
           (subst (λ (x : OpenValue). OpenBreaks r.patterns r.bits b.classes.columns x line hint) (sym e) h)
 
     -- a template between the bounds may be asked for
-    pub may_ask_between : (gates : ℕ) → lower_of r.bound < length r.encoding.gates.gates → gates ≡ lower_of r.bound → IsAsked r.patterns r.bits gates b.classes.columns
+    pub may_ask_between : (gates : ℕ) → printed_lower r.bound < length r.encoding.gates.gates → gates ≡ printed_lower r.bound → IsAsked r.patterns r.bits gates b.classes.columns
     may_ask_between gates less same = may_ask gates (omega (arith, same, limit_few r.version, lower_below)) (two_bits (omega (arith, less)))
 
     pub may_ask_open : (kind : Template) (gates : ℕ) (log : List Line) → r.open_part ≡ OpenValue.Log kind gates log →
-        IsOpenBetween r.patterns r.bits b.classes.columns (lower_of r.bound) (length r.encoding.gates.gates) r.open_part → IsAsked r.patterns r.bits gates b.classes.columns
+        IsOpenBetween r.patterns r.bits b.classes.columns (printed_lower r.bound) (length r.encoding.gates.gates) r.open_part → IsAsked r.patterns r.bits gates b.classes.columns
     may_ask_open kind gates log e h =
-        let between = subst (IsOpenBetween r.patterns r.bits b.classes.columns (lower_of r.bound) (length r.encoding.gates.gates)) e h in
+        let between = subst (IsOpenBetween r.patterns r.bits b.classes.columns (printed_lower r.bound) (length r.encoding.gates.gates)) e h in
         may_ask_between gates between.0 between.1

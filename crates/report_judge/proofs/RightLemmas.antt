@@ -15,7 +15,7 @@ use Rattle.handshake_eqs.proofs.NetlistLemmas.{agrees_over_runs}
 use Rattle.handshake_eqs.proofs.StepLemmas.{few_distinct}
 use Rattle.report_text.specs.Report.{ReportValue, IsReport}
 use Rattle.report_judge.specs.Good.{ByClasses, IsGood}
-use Rattle.report_judge.specs.Known.{lower_of, SpeaksOf, IsShown, AreClassColumns}
+use Rattle.report_judge.specs.Known.{printed_lower, SpeaksOf, IsShown, AreClassColumns}
 use Rattle.report_judge.specs.Laws.{IsRight}
 use Rattle.report_judge.specs.Parts.{Part}
 use Rattle.report_judge.proofs.BasisLemmas.{one_orders, with_both}
@@ -31,25 +31,25 @@ evidence_is operations orders patterns bits columns lo (EvidenceValue.Refutation
 
 module _ (r : ReportValue) (is : IsReport r) where
   bounded_by : (orders : List Order) (columns : List (List Bit3)) → AreClassColumns r.scenarios orders columns →
-      SpeaksOf r.patterns r.bits columns (lower_of r.bound) r.evidence → IsShown (length r.names) orders r.patterns r.bits columns r.evidence →
-      IsLowerBound (length r.names) orders r.patterns r.bits (lower_of r.bound)
+      SpeaksOf r.patterns r.bits columns (printed_lower r.bound) r.evidence → IsShown (length r.names) orders r.patterns r.bits columns r.evidence →
+      IsLowerBound (length r.names) orders r.patterns r.bits (printed_lower r.bound)
   bounded_by orders columns are speaks shown =
       let count = count_is r is orders are.are_orders in
       let size = orders_are_few r is orders are.are_orders in
-      let by_classes = subst (λ (cs : List (List Bit3)). IsEvidence (length r.names) orders r.patterns r.bits cs (lower_of r.bound) r.evidence) are.columns_are
-      (evidence_is (length r.names) orders r.patterns r.bits columns (lower_of r.bound) r.evidence speaks shown) in
-      let by_count = subst (λ (n : ℕ). IsEvidence n orders r.patterns r.bits are.classes.columns (lower_of r.bound) r.evidence) (sym count) by_classes in
-      subst (λ (n : ℕ). IsLowerBound n orders r.patterns r.bits (lower_of r.bound)) count
-      (evidence_bounds_lem orders r.patterns are.table are.classes r.bits (lower_of r.bound) r.evidence (alike_by_count r is orders are.are_orders) are.are_columns are.are_classes
+      let by_classes = subst (λ (cs : List (List Bit3)). IsEvidence (length r.names) orders r.patterns r.bits cs (printed_lower r.bound) r.evidence) are.columns_are
+      (evidence_is (length r.names) orders r.patterns r.bits columns (printed_lower r.bound) r.evidence speaks shown) in
+      let by_count = subst (λ (n : ℕ). IsEvidence n orders r.patterns r.bits are.classes.columns (printed_lower r.bound) r.evidence) (sym count) by_classes in
+      subst (λ (n : ℕ). IsLowerBound n orders r.patterns r.bits (printed_lower r.bound)) count
+      (evidence_bounds_lem orders r.patterns are.table are.classes r.bits (printed_lower r.bound) r.evidence (alike_by_count r is orders are.are_orders) are.are_columns are.are_classes
       (omega (arith, size, is.some_scenario)) (record { one_each = is.patterns.one_each ∙ sym size; lengths = is.patterns.lengths }) by_count)
 
   -- no encoding has fewer gates than the lower bound of a good report
-  bounded : IsGood r → (orders : List Order) → AreOrdersOf r.scenarios orders → IsLowerBound (length r.names) orders r.patterns r.bits (lower_of r.bound)
+  bounded : IsGood r → (orders : List Order) → AreOrdersOf r.scenarios orders → IsLowerBound (length r.names) orders r.patterns r.bits (printed_lower r.bound)
   bounded good orders are =
-      with_both r (λ os columns. SpeaksOf r.patterns r.bits columns (lower_of r.bound) r.evidence) (λ os columns. IsShown (length r.names) os r.patterns r.bits columns r.evidence)
+      with_both r (λ os columns. SpeaksOf r.patterns r.bits columns (printed_lower r.bound) r.evidence) (λ os columns. IsShown (length r.names) os r.patterns r.bits columns r.evidence)
       (good Part.Evidence) (good Part.Shown)
       (λ os columns class_columns speaks shown.
-      subst (λ (x : List Order). IsLowerBound (length r.names) x r.patterns r.bits (lower_of r.bound)) (one_orders r.scenarios os orders class_columns.are_orders are)
+      subst (λ (x : List Order). IsLowerBound (length r.names) x r.patterns r.bits (printed_lower r.bound)) (one_orders r.scenarios os orders class_columns.are_orders are)
       (bounded_by os columns class_columns speaks shown))
 
   pub good_is_right : IsGood r → IsRight r

@@ -14,8 +14,8 @@ use Rattle.proof_check.specs.Following.{Live, after, AllFollow}
 use Rattle.proof_check.specs.Progress.{IsProgress}
 use Rattle.report_text.specs.Report.{ReportValue}
 use Rattle.report_judge.specs.Good.{ByClasses, Holds, IsGood}
-use Rattle.report_judge.specs.Known.{lower_of, SpeaksOf, IsShown, IsOpenBetween, OpenFollows, ReachesBudget, AreClassColumns}
-use Rattle.report_judge.specs.Laws.{IsSearched}
+use Rattle.report_judge.specs.Known.{printed_lower, SpeaksOf, IsShown, IsOpenBetween, OpenFollows, ReachesBudget, AreClassColumns}
+use Rattle.report_judge.specs.Laws.{IsReportOfSearch}
 use Rattle.report_judge.specs.Parts.{Part}
 
 -- the covering pairs of orders have these orders
@@ -58,7 +58,7 @@ module _ (operations : ℕ) (orders : List Order) (patterns : List (List Bit3)) 
   reaches (OpenValue.Log kind gates log) h = h.1.spends.reached
   reaches (OpenValue.Size kind gates) h = tt
 
-module _ (r : ReportValue) (is : IsSearched r) where
+module _ (r : ReportValue) (is : IsReportOfSearch r) where
   are_orders : AreOrdersOf r.scenarios is.orders
   are_orders = subst (λ scenarios. AreOrdersOf scenarios is.orders) (sym is.scenarios) (have_orders is.orders (λ k d l. (is.one_count k d l).order))
 
@@ -71,25 +71,25 @@ module _ (r : ReportValue) (is : IsSearched r) where
   }
 
   abbrev lo : ℕ
-  lo = lower_of r.bound
+  lo = printed_lower r.bound
 
   abbrev hi : ℕ
   hi = length r.encoding.gates.gates
 
-  pub searched_is_good : IsGood r
-  searched_is_good Part.Acyclic = (is.orders, are_orders)
-  searched_is_good Part.Different = record { orders = is.orders; are_orders = are_orders; different = is.different }
-  searched_is_good Part.Codes = is.encodes.codes.distinct
-  searched_is_good Part.Given = is.encodes.given
-  searched_is_good Part.Fitting = (fits_is_fitting_scenarios_lem r.encoding r.scenarios is.orders are_orders).0 is.encodes.fits
-  searched_is_good Part.Netlist = (is.module_names, is.module_netlist)
-  searched_is_good Part.Count = is.attained
-  searched_is_good Part.Evidence = by_classes (λ orders columns. SpeaksOf r.patterns r.bits columns lo r.evidence)
+  pub report_of_search_is_good : IsGood r
+  report_of_search_is_good Part.Acyclic = (is.orders, are_orders)
+  report_of_search_is_good Part.Different = record { orders = is.orders; are_orders = are_orders; different = is.different }
+  report_of_search_is_good Part.Codes = is.encodes.codes.distinct
+  report_of_search_is_good Part.Given = is.encodes.given
+  report_of_search_is_good Part.Fitting = (fits_is_fitting_scenarios_lem r.encoding r.scenarios is.orders are_orders).0 is.encodes.fits
+  report_of_search_is_good Part.Netlist = (is.module_names, is.module_netlist)
+  report_of_search_is_good Part.Count = is.attained
+  report_of_search_is_good Part.Evidence = by_classes (λ orders columns. SpeaksOf r.patterns r.bits columns lo r.evidence)
       (speaks (length r.names) is.orders r.patterns r.bits is.classes.columns lo hi r.budget r.evidence is.evidence)
-  searched_is_good Part.Shown = by_classes (λ orders columns. IsShown (length r.names) orders r.patterns r.bits columns r.evidence)
+  report_of_search_is_good Part.Shown = by_classes (λ orders columns. IsShown (length r.names) orders r.patterns r.bits columns r.evidence)
       (shows (length r.names) is.orders r.patterns r.bits is.classes.columns lo hi r.budget r.evidence is.evidence)
-  searched_is_good Part.Open = by_classes (λ orders columns. IsOpenBetween r.patterns r.bits columns lo hi r.open_part)
+  report_of_search_is_good Part.Open = by_classes (λ orders columns. IsOpenBetween r.patterns r.bits columns lo hi r.open_part)
       (between (length r.names) is.orders r.patterns r.bits is.classes.columns lo hi r.budget r.open_part is.open_part)
-  searched_is_good Part.Followed = by_classes (λ orders columns. OpenFollows r.patterns r.bits columns r.open_part)
+  report_of_search_is_good Part.Followed = by_classes (λ orders columns. OpenFollows r.patterns r.bits columns r.open_part)
       (follows (length r.names) is.orders r.patterns r.bits is.classes.columns lo hi r.budget r.open_part is.open_part)
-  searched_is_good Part.Long = reaches (length r.names) is.orders r.patterns r.bits is.classes.columns lo hi r.budget r.open_part is.open_part
+  report_of_search_is_good Part.Long = reaches (length r.names) is.orders r.patterns r.bits is.classes.columns lo hi r.budget r.open_part is.open_part

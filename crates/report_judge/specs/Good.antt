@@ -10,7 +10,7 @@ use Rattle.scenario_check.specs.Equals.{AreDifferent}
 use Rattle.handshake_eqs.specs.Netlists.{IsNetlistOf}
 use Rattle.report_text.specs.Report.{ReportValue}
 use Rattle.report_judge.specs.Parts.{Part}
-use Rattle.report_judge.specs.Known.{lower_of, IsCountOf, AreClassColumns, SpeaksOf, IsShown, IsOpenBetween, OpenFollows, ReachesBudget}
+use Rattle.report_judge.specs.Known.{printed_lower, Attains, AreClassColumns, SpeaksOf, IsShown, IsOpenBetween, OpenFollows, ReachesBudget}
 
 -- the scenarios have orders, no two of which are equal
 pub record HaveDifferentOrders (r : ReportValue) : Type 0 where
@@ -36,11 +36,11 @@ Holds r Part.Codes = AllPairs (λ a b. a ≢ b) r.encoding.codes
 Holds r Part.Given = KeepGivenBits r.patterns r.encoding.codes
 Holds r Part.Fitting = FitsScenarios r.encoding r.scenarios
 Holds r Part.Netlist = (r.design.names ≡ r.names) × IsNetlistOf r.encoding r.design.netlist
-Holds r Part.Count = IsCountOf (length r.encoding.gates.gates) r.bound
-Holds r Part.Evidence = ByClasses r (λ orders columns. SpeaksOf r.patterns r.bits columns (lower_of r.bound) r.evidence)
+Holds r Part.Count = Attains (length r.encoding.gates.gates) r.bound
+Holds r Part.Evidence = ByClasses r (λ orders columns. SpeaksOf r.patterns r.bits columns (printed_lower r.bound) r.evidence)
 Holds r Part.Shown = ByClasses r (λ orders columns. IsShown (length r.names) orders r.patterns r.bits columns r.evidence)
 Holds r Part.Open = ByClasses r (λ orders columns.
-    IsOpenBetween r.patterns r.bits columns (lower_of r.bound) (length r.encoding.gates.gates) r.open_part)
+    IsOpenBetween r.patterns r.bits columns (printed_lower r.bound) (length r.encoding.gates.gates) r.open_part)
 Holds r Part.Followed = ByClasses r (λ orders columns. OpenFollows r.patterns r.bits columns r.open_part)
 Holds r Part.Long = ReachesBudget r.budget r.open_part
 

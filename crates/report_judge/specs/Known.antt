@@ -23,14 +23,14 @@ use Rattle.report_text.specs.declared.bound.Bound.{Bound}
 use Rattle.report_text.specs.declared.bound.Bound.TheVariants.{Minimum, Between}
 
 -- the lower bound that is printed
-abbrev pub lower_of : Bound → ℕ
-lower_of (Minimum h) = h
-lower_of (Between lo hi) = lo
+abbrev pub printed_lower : Bound → ℕ
+printed_lower (Minimum h) = h
+printed_lower (Between lo hi) = lo
 
 -- so many gates are a printed minimum; where two bounds are printed they are the higher one, and the lower one is less
-abbrev pub IsCountOf : ℕ → Bound → Type 0
-IsCountOf gates (Minimum h) = gates ≡ h
-IsCountOf gates (Between lo hi) = (gates ≡ hi) × (lo < hi)
+abbrev pub Attains : ℕ → Bound → Type 0
+Attains gates (Minimum h) = gates ≡ h
+Attains gates (Between lo hi) = (gates ≡ hi) × (lo < hi)
 
 -- scenarios have these orders, and the classes of the orders' columns have these columns
 pub record AreClassColumns (scenarios : List Scenario) (orders : List Order) (columns : List (List Bit3)) : Type 0 where

@@ -15,7 +15,7 @@ use Rattle.handshake_eqs.specs.Netlists.{IsNetlistOf}
 use Rattle.handshake_eqs.specs.Agreement.{AgreesOverRuns}
 use Rattle.report_text.specs.Report.{ReportValue, IsReport}
 use Rattle.report_judge.specs.declared.reason.Reason.{Reason}
-use Rattle.report_judge.specs.Known.{lower_of, IsCountOf}
+use Rattle.report_judge.specs.Known.{printed_lower, Attains}
 use Rattle.report_judge.specs.Good.{IsGood}
 use Rattle.report_judge.specs.Reasons.{Fails, IsFirstFailing}
 
@@ -36,12 +36,12 @@ pub record IsRight (r : ReportValue) : Type 0 where
   pub agrees : AgreesOverRuns r.encoding r.design.netlist
   -- No encoding of as many bits that keeps the given bits has fewer gates than its lower bound. The scenarios are of one
   -- count of operations and have enough codes, and its own encoding is one of those that are compared.
-  pub lower_bound : IsLowerBound (length r.names) orders r.patterns r.bits (lower_of r.bound)
+  pub lower_bound : IsLowerBound (length r.names) orders r.patterns r.bits (printed_lower r.bound)
   pub one_count : All (IsOrderOf (length r.names)) orders
   pub enough_bits : length orders ≤ 2 ^ r.bits
   pub compared : Encodes (length r.names) orders r.patterns r.bits r.encoding
   -- a printed minimum is its number of gates, and a greater bound is where it isn't the lower one
-  pub attained : IsCountOf (length r.encoding.gates.gates) r.bound
+  pub attained : Attains (length r.encoding.gates.gates) r.bound
 
 -- what a good report tells is so
 abbrev pub GoodReportsAreRight : Type 0
@@ -58,7 +58,7 @@ OneVerdict = (r : ReportValue) (a b : Reason) → IsFirstFailing r a → IsFirst
 -- What a search says of its report: the scenarios are the covering pairs of orders no two of which are equal; the encoding
 -- is one of them, the module its netlist, and the bound fits its gates; there is evidence for the lower bound, and an open
 -- part between the bounds.
-pub record IsSearched (r : ReportValue) : Type 0 where
+pub record IsReportOfSearch (r : ReportValue) : Type 0 where
   pub orders : List Order
   pub one_count : All (IsOrderOf (length r.names)) orders
   pub scenarios : r.scenarios ≡ map covering_scenario orders
@@ -66,14 +66,14 @@ pub record IsSearched (r : ReportValue) : Type 0 where
   pub encodes : Encodes (length r.names) orders r.patterns r.bits r.encoding
   pub module_names : r.design.names ≡ r.names
   pub module_netlist : IsNetlistOf r.encoding r.design.netlist
-  pub attained : IsCountOf (length r.encoding.gates.gates) r.bound
+  pub attained : Attains (length r.encoding.gates.gates) r.bound
   pub columns : Columns
   pub are_columns : AreColumnsOf orders columns
   pub classes : Classes
   pub are_classes : AreClassesOf columns classes
-  pub evidence : IsEvidence (length r.names) orders r.patterns r.bits classes.columns (lower_of r.bound) r.evidence
-  pub open_part : IsOpenPart r.patterns r.bits classes.columns (lower_of r.bound) (length r.encoding.gates.gates) r.budget r.open_part
+  pub evidence : IsEvidence (length r.names) orders r.patterns r.bits classes.columns (printed_lower r.bound) r.evidence
+  pub open_part : IsOpenPart r.patterns r.bits classes.columns (printed_lower r.bound) (length r.encoding.gates.gates) r.budget r.open_part
 
 -- the report of a search is good
-abbrev pub SearchedAreGood : Type 0
-SearchedAreGood = (r : ReportValue) → IsSearched r → IsGood r
+abbrev pub ReportsOfSearchesAreGood : Type 0
+ReportsOfSearchesAreGood = (r : ReportValue) → IsReportOfSearch r → IsGood r

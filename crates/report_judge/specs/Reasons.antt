@@ -12,11 +12,11 @@ use Rattle.report_judge.specs.declared.reason.Verdict.TheVariants as verdicts
 use Rattle.report_judge.specs.Parts.{Part, place}
 use Rattle.report_judge.specs.Codes.{IsFirstSame, IsFirstLost}
 use Rattle.report_judge.specs.Fitting.{IsFirstWrongOperation, IsFirstWrongPair}
-use Rattle.report_judge.specs.Known.{lower_of, SpeaksOf, FailsAtMember, FailsAtLine, FailsWithoutEmpty, IsOpenBetween, OpenBreaks}
+use Rattle.report_judge.specs.Known.{printed_lower, SpeaksOf, FailsAtMember, FailsAtLine, FailsWithoutEmpty, IsOpenBetween, OpenBreaks}
 use Rattle.report_judge.specs.Good.{ByClasses, Holds, IsGood}
 
 -- the scenarios have orders, and this is the first equal pair
-pub record AreFirstEqual (r : ReportValue) (later earlier : ℕ) : Type 0 where
+pub record HaveFirstEqual (r : ReportValue) (later earlier : ℕ) : Type 0 where
   pub orders : List Order
   pub are_orders : AreOrdersOf r.scenarios orders
   pub first : IsFirstPair orders later earlier
@@ -42,19 +42,19 @@ part_of reasons.OpenShort = Part.Long
 -- the reason says how its part fails: with the first scenario, operation, pair, member or line where it does
 abbrev pub Fails : ReportValue → Reason → Type 0
 Fails r (reasons.Cyclic s v) = IsFirstCyclic r.scenarios s.0 v.0
-Fails r (reasons.Equal later earlier) = AreFirstEqual r later.0 earlier.0
+Fails r (reasons.Equal later earlier) = HaveFirstEqual r later.0 earlier.0
 Fails r (reasons.Codes later earlier) = IsFirstSame r.encoding.codes later.0 earlier.0
 Fails r (reasons.Given s) = IsFirstLost r.patterns r.encoding.codes s.0
 Fails r (reasons.Operation s v) = IsFirstWrongOperation r.encoding r.scenarios s.0 v.0
 Fails r (reasons.Order s u v) = IsFirstWrongPair r.encoding r.scenarios s.0 u.0 v.0
 Fails r reasons.Netlist = Holds r Part.Netlist → ⊥
 Fails r reasons.Count = Holds r Part.Count → ⊥
-Fails r reasons.Evidence = ByClasses r (λ orders columns. SpeaksOf r.patterns r.bits columns (lower_of r.bound) r.evidence → ⊥)
+Fails r reasons.Evidence = ByClasses r (λ orders columns. SpeaksOf r.patterns r.bits columns (printed_lower r.bound) r.evidence → ⊥)
 Fails r (reasons.EvidenceCondition member) = ByClasses r (λ orders columns. FailsAtMember orders r.evidence member)
 Fails r (reasons.RefutationLine line hint) = ByClasses r (λ orders columns. FailsAtLine r.patterns r.bits columns r.evidence line hint)
 Fails r reasons.RefutationNoEmptyClause = ByClasses r (λ orders columns. FailsWithoutEmpty r.patterns r.bits columns r.evidence)
 Fails r reasons.Open = ByClasses r (λ orders columns.
-    IsOpenBetween r.patterns r.bits columns (lower_of r.bound) (length r.encoding.gates.gates) r.open_part → ⊥)
+    IsOpenBetween r.patterns r.bits columns (printed_lower r.bound) (length r.encoding.gates.gates) r.open_part → ⊥)
 Fails r (reasons.OpenLine line hint) = ByClasses r (λ orders columns. OpenBreaks r.patterns r.bits columns r.open_part line hint)
 Fails r reasons.OpenShort = Holds r Part.Long → ⊥
 

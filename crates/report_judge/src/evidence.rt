@@ -3,7 +3,7 @@ ghost use Rattle.std.specs.Prelude.{◌≡◌, ◌↔◌, ◌<◌, ℕ, IsTrue, 
 ghost use Rattle.std.specs.List.{All};
 ghost use Rattle.cpog_defs.specs.Graphs.{IsPlace};
 ghost use Rattle.cpog_merge.specs.Columns.{AreColumnsOf, column_at, count_of};
-ghost use Rattle.report_judge.specs.Known.{lower_of, IsAboutFewer, SpeaksOf, IsShown, IsMember, IsFirstNoMember};
+ghost use Rattle.report_judge.specs.Known.{printed_lower, IsAboutFewer, SpeaksOf, IsShown, IsMember, IsFirstNoMember};
 ghost use Rattle.report_judge.specs.Parts.{Part};
 ghost use Rattle.report_judge.specs.Steps.{CanAsk, IsBasis, IsFaultAt};
 
@@ -35,8 +35,8 @@ fn is_about_fewer(
 }
 
 /// The lower bound that is printed.
-pub(crate) fn lower_of(bound: Bound) -> u32
-    ensures { result ≡ lower_of bound }
+pub(crate) fn printed_lower(bound: Bound) -> u32
+    ensures { result ≡ printed_lower bound }
 {
     match bound {
         Bound::Minimum(gates) => gates,
@@ -47,9 +47,9 @@ pub(crate) fn lower_of(bound: Bound) -> u32
 /// Whether the evidence speaks of the lower bound.
 pub(crate) fn evidence_speaks(report: &Report, basis: &Basis) -> bool
     requires { IsBasis report.now.scenarios basis.now }
-    ensures { IsTrue result ↔ SpeaksOf report.now.patterns report.now.bits basis.now.classes.columns (lower_of report.now.bound) report.now.evidence }
+    ensures { IsTrue result ↔ SpeaksOf report.now.patterns report.now.bits basis.now.classes.columns (printed_lower report.now.bound) report.now.evidence }
 {
-    let lo = lower_of(report.bound());
+    let lo = printed_lower(report.bound());
     let bits = report.bits();
     match report.evidence() {
         Evidence::Zero => lo == 0,
@@ -116,7 +116,7 @@ fn first_no_member(basis: &Basis, places: &[Place]) -> Option<u32>
 /// Tests what shows the lower bound: a count member by member, and a refutation line by line.
 pub(crate) fn check_shown(alloc: Global, report: &Report, basis: &Basis) -> Result<(), Fault>
     requires basis { IsBasis report.now.scenarios basis.now }
-    requires speaks { SpeaksOf report.now.patterns report.now.bits basis.now.classes.columns (lower_of report.now.bound) report.now.evidence }
+    requires speaks { SpeaksOf report.now.patterns report.now.bits basis.now.classes.columns (printed_lower report.now.bound) report.now.evidence }
     ensures ok { OnOk result (IsShown (length report.now.names) basis.now.orders.items report.now.patterns report.now.bits basis.now.classes.columns report.now.evidence) }
     ensures err { IfErr result (IsFaultAt report.now Part.Shown) }
 {

@@ -2,7 +2,7 @@
 ghost use Rattle.std.specs.Prelude.{◌≡◌, ◌↔◌, IsTrue, length, IfOk, OnOk, IfErr};
 ghost use Rattle.cpog_defs.specs.Scenarios.{AreOrdersOf};
 ghost use Rattle.report_judge.specs.Good.{Holds, IsGood};
-ghost use Rattle.report_judge.specs.Known.{IsCountOf};
+ghost use Rattle.report_judge.specs.Known.{Attains};
 ghost use Rattle.report_judge.specs.Parts.{Part};
 ghost use Rattle.report_judge.specs.Reasons.{HoldBelow, IsVerdict};
 ghost use Rattle.report_judge.specs.Steps.{IsBasis, IsFirstFault};
@@ -67,8 +67,8 @@ fn is_own_module(report: &Report) -> bool
 }
 
 /// Whether the bound fits so many gates.
-fn is_count_of(gates: u32, bound: Bound) -> bool
-    ensures { IsTrue result ↔ IsCountOf gates bound }
+fn attains(gates: u32, bound: Bound) -> bool
+    ensures { IsTrue result ↔ Attains gates bound }
 {
     match bound {
         Bound::Minimum(minimum) => gates == minimum,
@@ -90,7 +90,7 @@ fn check_encoding(alloc: Global, report: &Report, orders: &[CoveredOrder]) -> Re
     if !is_own_module(report) {
         return Err(Fault::Fails(Reason::Netlist));
     }
-    if !is_count_of(report.encoding().gates().len(), report.bound()) {
+    if !attains(report.encoding().gates().len(), report.bound()) {
         return Err(Fault::Fails(Reason::Count));
     }
     Ok(())

@@ -1,5 +1,5 @@
 //! What is promised of good reports and of reasons.
-ghost use Rattle.report_judge.specs.Laws.{GoodReportsAreRight, GoodOrFailing, OneVerdict, SearchedAreGood};
+ghost use Rattle.report_judge.specs.Laws.{GoodReportsAreRight, GoodOrFailing, OneVerdict, ReportsOfSearchesAreGood};
 
 /// What a good report tells is so: its codes, its conditions, its module over every run, and its bounds.
 pub fn good_reports_are_right()
@@ -17,6 +17,6 @@ pub fn one_verdict()
 {}
 
 /// The report of a search is good.
-pub fn searched_are_good()
-    ensures { SearchedAreGood }
+pub fn reports_of_searches_are_good()
+    ensures { ReportsOfSearchesAreGood }
 {}

@@ -1,11 +1,11 @@
 //! What is left open between the bounds.
 ghost use Rattle.std.specs.Prelude.{◌≡◌, ◌↔◌, ◌<◌, IsTrue, length, OnOk, IfErr};
-ghost use Rattle.report_judge.specs.Known.{lower_of, IsCountOf, IsOpenBetween, OpenFollows, ReachesBudget};
+ghost use Rattle.report_judge.specs.Known.{printed_lower, Attains, IsOpenBetween, OpenFollows, ReachesBudget};
 ghost use Rattle.report_judge.specs.Parts.{Part};
 ghost use Rattle.report_judge.specs.Steps.{IsBasis, IsFaultAt};
 
 use crate::basis::Basis;
-use crate::evidence::lower_of;
+use crate::evidence::printed_lower;
 use crate::fault::Fault;
 use crate::reason::Reason;
 use crate::template::{follow, is_small};
@@ -17,10 +17,10 @@ use std::alloc::Global;
 /// Whether the open part is one between the bounds. Where the bounds differ there is a gate, and so more than one bit.
 pub(crate) fn is_open_between(report: &Report, basis: &Basis) -> bool
     requires basis { IsBasis report.now.scenarios basis.now }
-    requires count { IsCountOf (length report.now.encoding.gates.gates) report.now.bound }
-    ensures { IsTrue result ↔ IsOpenBetween report.now.patterns report.now.bits basis.now.classes.columns (lower_of report.now.bound) (length report.now.encoding.gates.gates) report.now.open_part }
+    requires count { Attains (length report.now.encoding.gates.gates) report.now.bound }
+    ensures { IsTrue result ↔ IsOpenBetween report.now.patterns report.now.bits basis.now.classes.columns (printed_lower report.now.bound) (length report.now.encoding.gates.gates) report.now.open_part }
 {
-    let lo = lower_of(report.bound());
+    let lo = printed_lower(report.bound());
     let hi = report.encoding().gates().len();
     let classes = &basis.classes;
     let given = report.given();
@@ -39,7 +39,7 @@ pub(crate) fn is_open_between(report: &Report, basis: &Basis) -> bool
 /// Tests that the lines of an open log follow.
 pub(crate) fn check_followed(alloc: Global, report: &Report, basis: &Basis) -> Result<(), Fault>
     requires basis { IsBasis report.now.scenarios basis.now }
-    requires between { IsOpenBetween report.now.patterns report.now.bits basis.now.classes.columns (lower_of report.now.bound) (length report.now.encoding.gates.gates) report.now.open_part }
+    requires between { IsOpenBetween report.now.patterns report.now.bits basis.now.classes.columns (printed_lower report.now.bound) (length report.now.encoding.gates.gates) report.now.open_part }
     ensures ok { OnOk result (OpenFollows report.now.patterns report.now.bits basis.now.classes.columns report.now.open_part) }
     ensures err { IfErr result (IsFaultAt report.now Part.Followed) }
 {

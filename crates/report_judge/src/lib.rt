@@ -20,5 +20,5 @@ mod reason;
 mod template;
 
 pub use judging::judge;
-pub use laws::{good_or_failing, good_reports_are_right, one_verdict, searched_are_good};
+pub use laws::{good_or_failing, good_reports_are_right, one_verdict, reports_of_searches_are_good};
 pub use reason::{Reason, Verdict};
