@@ -185,9 +185,11 @@ module _ (e : Encoding) (scenarios : List Scenario) where
 
   one_wrong_operation : (s t v w : ℕ) → IsFirstWrongOperation e scenarios s v → IsFirstWrongOperation e scenarios t w → (s ≡ t) × (v ≡ w)
   one_wrong_operation s t v w h k =
-      let same : s ≡ t = one_wrong s t (wrong_operation s v h) h.earlier (wrong_operation t w k) k.earlier in
-      (same, one_other e.graph (values_at e s) (scenario_at scenarios s) v w h.operation
-      (subst (λ (n : ℕ). IsFirstOther e.graph (values_at e n) (scenario_at scenarios n) w) (sym same) k.operation))
+      let same : s ≡ t = one_wrong s t (wrong_operation s v h) h.earlier (wrong_operation t w k) k.earlier in (
+        same,
+        one_other e.graph (values_at e s) (scenario_at scenarios s) v w h.operation
+            (subst (λ (n : ℕ). IsFirstOther e.graph (values_at e n) (scenario_at scenarios n) w) (sym same) k.operation),
+      )
 
   one_wrong_pair : (s t u v a b : ℕ) → IsFirstWrongPair e scenarios s u v → IsFirstWrongPair e scenarios t a b → (s ≡ t) × (u ≡ a) × (v ≡ b)
   one_wrong_pair s t u v a b h k =

@@ -22,9 +22,10 @@ use Rattle.report_judge.specs.Parts.{Part}
 have_orders : (orders : List Order) → All IsOrder orders → AreOrdersOf (map covering_scenario orders) orders
 have_orders [] h = tt
 have_orders (o ∷ orders) h =
-    let ord : IsOrder o = h 0 o (omega arith) in
-    (record { order = ord; count = refl; ops = refl; before = λ u v. ((pairs_walk o ord u v).1, (pairs_walk o ord u v).0) },
-    have_orders orders (λ k d l. h (suc k) d (omega (arith, l))))
+    let ord : IsOrder o = h 0 o (omega arith) in (
+      record { order = ord; count = refl; ops = refl; before = λ u v. ((pairs_walk o ord u v).1, (pairs_walk o ord u v).0) },
+      have_orders orders (λ k d l. h (suc k) d (omega (arith, l))),
+    )
 
 -- the lines of a progress log follow
 progress_follows : (v n : ℕ) (live : Live) (known : List Clause) (log : List Line) → IsProgress v n live known log → AllFollow v n live log

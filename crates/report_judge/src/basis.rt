@@ -18,11 +18,7 @@ pub struct Basis {
 }
 
 /// What the evidence of a report is judged by.
-pub(crate) fn basis_of(
-    alloc: Global,
-    report: &Report,
-    orders: Vec<Order>,
-) -> Result<Basis, Memory>
+pub(crate) fn basis_of(alloc: Global, report: &Report, orders: Vec<Order>) -> Result<Basis, Memory>
     requires { AreOrdersOf report.now.scenarios orders.items }
     ensures { IfOk result (IsBasis report.now.scenarios) }
 {

@@ -55,15 +55,10 @@ pub(crate) fn evidence_speaks(report: &Report, basis: &Basis) -> bool
         Evidence::Zero => lo == 0,
         Evidence::Count(places) => places.len() == lo as usize + usize::from(bits),
         Evidence::Refutation {
-            template, gates, ..
-        } => is_about_fewer(
-            &basis.classes,
-            report.given(),
-            bits,
-            lo,
-            *template,
-            *gates,
-        ),
+            template,
+            gates,
+            ..
+        } => is_about_fewer(&basis.classes, report.given(), bits, lo, *template, *gates),
     }
 }
 

@@ -135,7 +135,7 @@ fn first_difference_from(rows: &[OpSet], others: &[OpSet], u: OpId) -> Option<Op
 }
 
 /// The first pair, by the first operation and then by the second, of which one list of rows tells otherwise.
-fn first_difference(rows: &[OpSet], others: &[OpSet]) -> Option<(OpId, OpId)>
+pub(crate) fn first_difference(rows: &[OpSet], others: &[OpSet]) -> Option<(OpId, OpId)>
     requires few { length rows.now ≤ 128 }
     requires alike { length others.now ≡ length rows.now }
     ensures { MatchOption result ((u v : ℕ) → u < length rows.now → row_has rows.now u v ≡ row_has others.now u v)

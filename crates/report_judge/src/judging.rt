@@ -67,7 +67,7 @@ fn is_own_module(report: &Report) -> bool
 }
 
 /// Whether the bound fits so many gates.
-fn attains(gates: u32, bound: Bound) -> bool
+pub(crate) fn attains(gates: u32, bound: Bound) -> bool
     ensures { IsTrue result ↔ Attains gates bound }
 {
     match bound {

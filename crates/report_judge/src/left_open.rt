@@ -28,7 +28,9 @@ pub(crate) fn is_open_between(report: &Report, basis: &Basis) -> bool
     match report.open_part() {
         OpenPart::Closed => lo == hi,
         OpenPart::Log {
-            template, gates, ..
+            template,
+            gates,
+            ..
         } => lo < hi && (*gates == lo && is_small(*template, classes, given, bits, *gates)),
         OpenPart::Size { template, gates } => {
             lo < hi && (*gates == lo && !is_small(*template, classes, given, bits, *gates))

@@ -18,7 +18,11 @@ mod laws;
 mod left_open;
 mod reason;
 mod template;
+#[cfg(test)]
+mod tests;
 
 pub use judging::judge;
-pub use laws::{good_or_failing, good_reports_are_right, one_verdict, reports_of_searches_are_good};
+pub use laws::{
+    good_or_failing, good_reports_are_right, one_verdict, reports_of_searches_are_good,
+};
 pub use reason::{Reason, Verdict};

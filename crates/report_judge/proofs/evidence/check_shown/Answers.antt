@@ -34,13 +34,17 @@ returns-in-None-clause-ok c =
 
 pub returns-in-NoEmptyClause-clause-err : goal.returns-in-NoEmptyClause-clause-err
 returns-in-NoEmptyClause-clause-err c =
-    let is = sym c.evidence.ensures ∙ ap evidence_of c.in-Refutation.is in
-    (refl, empty_fault c.args.report.now c.bits-bits.ensures.report c.args.basis.now c.requires.basis c.in-Refutation.template c.in-Refutation.gates c.in-Refutation.log.lines is
-    (rw (c.in-NoEmptyClause.is, c.given.ensures, c.bits-bits.ensures.bits) at c.in_ok-verdict-in-Refutation.ensures))
+    let is = sym c.evidence.ensures ∙ ap evidence_of c.in-Refutation.is in (
+      refl,
+      empty_fault c.args.report.now c.bits-bits.ensures.report c.args.basis.now c.requires.basis c.in-Refutation.template c.in-Refutation.gates c.in-Refutation.log.lines is
+          (rw (c.in-NoEmptyClause.is, c.given.ensures, c.bits-bits.ensures.bits) at c.in_ok-verdict-in-Refutation.ensures),
+    )
 
 pub returns-in-BadLine-clause-err : goal.returns-in-BadLine-clause-err
 returns-in-BadLine-clause-err c =
-    let is = sym c.evidence.ensures ∙ ap evidence_of c.in-Refutation.is in
-    (refl, line_fault c.args.report.now c.bits-bits.ensures.report c.args.basis.now c.requires.basis c.in-Refutation.template c.in-Refutation.gates c.in-Refutation.log.lines
-    c.in-BadLine.line c.in-BadLine.hint is
-    (rw (c.in-BadLine.is, c.given.ensures, c.bits-bits.ensures.bits) at c.in_ok-verdict-in-Refutation.ensures))
+    let is = sym c.evidence.ensures ∙ ap evidence_of c.in-Refutation.is in (
+      refl,
+      line_fault c.args.report.now c.bits-bits.ensures.report c.args.basis.now c.requires.basis c.in-Refutation.template c.in-Refutation.gates c.in-Refutation.log.lines
+          c.in-BadLine.line c.in-BadLine.hint is
+          (rw (c.in-BadLine.is, c.given.ensures, c.bits-bits.ensures.bits) at c.in_ok-verdict-in-Refutation.ensures),
+    )

@@ -11,7 +11,7 @@ loop-s-preserved c =
     let r = c.args.report.now in
     let values = c.loop-s.values in (
       ap length (written values.len values.items c.misfit_at.new.values (c.misfit_at.auto.values ∙ c.deref_mut.ensures.len))
-      ∙ c.misfit_at.auto.values ∙ ap length c.deref_mut.ensures.value ∙ c.loop-s.invariant.0,
+          ∙ c.misfit_at.auto.values ∙ ap length c.deref_mut.ensures.value ∙ c.loop-s.invariant.0,
       below_more (FitsAt r.encoding r.scenarios) _ c.loop-s.invariant.1 (subst (IsMisfitAt r.encoding r.scenarios c.loop-s.s) c.in-None.is c.in_ok-v.ensures),
     )
 

@@ -11,7 +11,9 @@ follow-requires-clause-asked c =
 
 pub returns-in-BadLine-clause-err : goal.returns-in-BadLine-clause-err
 returns-in-BadLine-clause-err c =
-    let is = sym c.open_part.ensures ∙ ap open_of c.in-Log.is in
-    (refl, open_fault c.args.report.now c.bits.ensures.report c.args.basis.now c.requires.basis c.in-Log.template c.in-Log.gates c.in-Log.log.lines
-    c.in-BadLine.line c.in-BadLine.hint is
-    (rw (c.in-BadLine.is, c.given.ensures, c.bits.ensures.bits) at c.in_ok-verdict-in-Log.ensures))
+    let is = sym c.open_part.ensures ∙ ap open_of c.in-Log.is in (
+      refl,
+      open_fault c.args.report.now c.bits.ensures.report c.args.basis.now c.requires.basis c.in-Log.template c.in-Log.gates c.in-Log.log.lines
+          c.in-BadLine.line c.in-BadLine.hint is
+          (rw (c.in-BadLine.is, c.given.ensures, c.bits.ensures.bits) at c.in_ok-verdict-in-Log.ensures),
+    )
