@@ -34,7 +34,7 @@ rows-same {A = A} {r = r} G u rows from to =
     subst (IsRows G u) (λ i p. same_result (r p) i)
     (rows-view (λ (x : A). x) G u rows (λ b h. let f = from b h in (b, f.0, f.1, refl)) to)
 
-below_front : {A : Type 0} (f : ℕ → List A) (n : ℕ) → each_below f (suc n) ≡ f 0 ++ each_below (λ k. f (suc k)) n
+pub below_front : {A : Type 0} (f : ℕ → List A) (n : ℕ) → each_below f (suc n) ≡ f 0 ++ each_below (λ k. f (suc k)) n
 below_front f zero = sym (append-nil (f 0))
 below_front {A = A} f (suc n) = ap (λ (xs : List A). xs ++ f (suc n)) (below_front f n) ∙ append_assoc (f 0) (each_below (λ k. f (suc k)) n) (f (suc n))
 

@@ -63,7 +63,10 @@ arc_marks_from count u bytes = steps (λ v s. with_mark s.0 (arc_mark u v s.1)) 
 abbrev pub arc_marks : ℕ → List ℕ → List (List Bool) × List ℕ
 arc_marks count bytes = steps (λ u s. with_mark s.0 (arc_marks_from count u s.1)) count 0 ([], bytes)
 
--- an operation that is waited for joins those before it
-abbrev pub wait_step : Bool → List ℕ → ℕ → Set × List ℕ → Set × List ℕ
-wait_step false item u s = s
-wait_step true item u s = next_or s (λ rest. (set.insert s.0 u, rest)) (behind item s.1)
+-- whether an operation is waited for, which it may be where its arc wire is declared
+abbrev pub wait_mark : Bool → List ℕ → List ℕ → Bool × List ℕ
+wait_mark declared item bytes = if declared then next_or (false, bytes) (λ rest. (true, rest)) (behind item bytes) else (false, bytes)
+
+-- it then joins those before it
+abbrev pub with_wait : ℕ → Set → Bool × List ℕ → Set × List ℕ
+with_wait u waits x = (if x.0 then set.insert waits u else waits, x.1)

@@ -15,7 +15,7 @@ use Rattle.netlist_verilog.specs.Rows.{separator, joined, signals_from, for_each
 use Rattle.line_rows.specs.Position.{Position}
 use Rattle.line_rows.specs.Reading.{◌>>=◌, row, line_at, read_or_fault, exactly, then_of, view_of, many_of}
 use Rattle.line_rows.specs.Words.{◌>>=?◌, behind, behind_of}
-use Rattle.module_reader.specs.Lists.{run, names_run, steps, arc_marks, wait_step}
+use Rattle.module_reader.specs.Lists.{run, names_run, steps, arc_marks, wait_mark, with_wait}
 use Rattle.module_reader.specs.Rows.{gates_at, conditions_at, arcs_at}
 
 -- ---- ports
@@ -89,7 +89,7 @@ abbrev pub wait_item : ℕ → List (List ℕ) → ℕ → ℕ → List ℕ
 wait_item inputs names v u = codes " & " ++ grouped 3 (tightness (arc_formula v u)) (formula_text inputs names (arc_formula v u))
 
 abbrev pub waits_after : ℕ → List (List ℕ) → List (List Bool) → ℕ → List ℕ → Set × List ℕ
-waits_after inputs names arcs v bytes = steps (λ u s. wait_step (is_declared arcs u v) (wait_item inputs names v u) u s) (length names) 0 (set.empty, bytes)
+waits_after inputs names arcs v bytes = steps (λ u s. with_wait u s.0 (wait_mark (is_declared arcs u v) (wait_item inputs names v u) s.1)) (length names) 0 (set.empty, bytes)
 
 abbrev pub waits_from : Set × List ℕ → Option Set
 waits_from x = if bytes_eq x.1 (codes ";") then Some x.0 else None
