@@ -58,8 +58,12 @@ header_names x = behind (codes ", go") x.1 >>=? λ rest. header_from x.0 (names_
 unfoldable pub header_in : List ℕ → Option (ℕ × List (List ℕ))
 header_in line = behind (codes "module cpog(") line >>=? λ rest. header_names (run input_item 8 0 rest)
 
+abbrev pub first_of : {A B : Type 0} → A × B → A
+first_of x = x.0
+
+-- the three lines of the ports
 unfoldable pub ports_at : Position → Result ((ℕ × List (List ℕ)) × Position) ℕ
-ports_at p = row header_in p >>= λ x. row (exactly (inputs_line x.0.0 x.0.1)) x.1 >>= λ y. row (exactly (outputs_line x.0.0 x.0.1)) y.1 >>= λ z. Ok (x.0, z.1)
+ports_at = view_of first_of (then_of (row header_in) (λ h. then_of (row (exactly (inputs_line h.0 h.1))) (λ _. row (exactly (outputs_line h.0 h.1)))))
 
 -- ---- inner wires
 
@@ -112,22 +116,31 @@ done_line inputs names = equation_row inputs names (done_equation (length names)
 abbrev pub idle_line : ℕ → List (List ℕ) → List ℕ
 idle_line inputs names = equation_row inputs names (idle_equation (length names))
 
+abbrev pub nothing : {A : Type 0} → A → Unit {0}
+nothing x = tt
+
 -- the line of idle, and the last
 unfoldable pub last_at : ℕ → List (List ℕ) → Position → Result (Unit {0} × Position) ℕ
-last_at inputs names p = row (exactly (idle_line inputs names)) p >>= λ x. row (exactly (codes "endmodule")) x.1
+last_at inputs names = view_of nothing (then_of (row (exactly (idle_line inputs names))) (λ _. row (exactly (codes "endmodule"))))
 
 -- the line of done, and those behind it
 unfoldable pub ends_at : ℕ → List (List ℕ) → Position → Result (Unit {0} × Position) ℕ
-ends_at inputs names p = row (exactly (done_line inputs names)) p >>= λ x. last_at inputs names x.1
+ends_at inputs names = view_of nothing (then_of (row (exactly (done_line inputs names))) (λ _. last_at inputs names))
 
 abbrev pub netlist_of : ℕ → List Gate → List Ref → List (List (Option Ref)) → List Set → Netlist
 netlist_of inputs gates conditions wires waits = record { gates = record { inputs = inputs; gates = gates }; conditions = conditions; wires = wires; waits = waits }
 
+abbrev pub Parts : Type 0
+Parts = List Gate × (List Ref × (List (List (Option Ref)) × (List Set × Unit {0})))
+
+abbrev pub netlist_from : ℕ → Parts → Netlist
+netlist_from inputs x = netlist_of inputs x.0 x.1.0 x.1.1.0 x.1.1.1.0
+
 -- the netlist, where the inner wires were declared so
 unfoldable pub netlist_at : ℕ → List (List ℕ) → ℕ × List (List Bool) → Position → Result (Netlist × Position) ℕ
-netlist_at inputs names d p =
-    gates_at inputs d.0 p >>= λ g. conditions_at inputs d.0 names g.1 >>= λ c. arcs_at inputs d.0 (is_declared d.1) (length names) c.1
-    >>= λ w. requests_at inputs names d.1 w.1 >>= λ r. ends_at inputs names r.1 >>= λ e. Ok (netlist_of inputs g.0 c.0 w.0 r.0, e.1)
+netlist_at inputs names d =
+    view_of (netlist_from inputs) (then_of (gates_at inputs d.0) (λ _. then_of (conditions_at inputs d.0 names) (λ _.
+    then_of (arcs_at inputs d.0 (is_declared d.1) (length names)) (λ _. then_of (requests_at inputs names d.1) (λ _. ends_at inputs names)))))
 
 -- a netlist with nothing in it
 abbrev pub no_netlist : ℕ → Netlist
@@ -151,6 +164,9 @@ body_from inputs names x = if declares names x.0 then declared_at inputs names x
 unfoldable pub body_at : ℕ → List (List ℕ) → Position → Result (Netlist × Position) ℕ
 body_at inputs names p = line_at p >>= body_from inputs names
 
+abbrev pub module_from : (ℕ × List (List ℕ)) × Netlist → ModuleValue
+module_from x = record { names = x.0.1; netlist = x.1 }
+
 -- the module that the rows from here on are the text of
 unfoldable pub module_at : Position → Result (ModuleValue × Position) ℕ
-module_at p = ports_at p >>= λ x. body_at x.0.0 x.0.1 x.1 >>= λ y. Ok (record { names = x.0.1; netlist = y.0 }, y.1)
+module_at = view_of module_from (then_of ports_at (λ h. body_at h.0 h.1))
