@@ -13,7 +13,14 @@ use Rattle.line_rows.specs.Words.{◌>>=?◌, behind}
 use Rattle.line_rows.proofs.Exact.{IsExact, behind_again, behind_takes, some_of, tested, both_true, same_bytes}
 use Rattle.line_rows.proofs.RowLaws.{FitsMany}
 use Rattle.module_reader.specs.Lists.{next_or, is_comma, steps, ends_item, mark, arc_item, arc_mark, with_mark, arc_marks_from, arc_marks}
-use Rattle.module_reader.proofs.ListLaws.{puts, walk_text, IsWalk, walk_takes, Again, walk_keeps, walk_again}
+use Rattle.cpog_defs.specs.Orders.{each_below}
+use Rattle.netlist_verilog.specs.Wires.{name_of}
+use Rattle.netlist_verilog.specs.Rows.{separator, joined}
+use Rattle.module_reader.specs.Lists.{run}
+use Rattle.module_reader.specs.Modules.{gate_item, gate_room, condition_names, wires_from, wires_behind, wires_in}
+use Rattle.module_reader.proofs.RowLaws.{below_front}
+use Rattle.module_reader.proofs.PortLaws.{none_behind}
+use Rattle.module_reader.proofs.ListLaws.{items_text, run_takes, run_again, puts, walk_text, IsWalk, walk_takes, Again, walk_keeps, walk_again}
 
 -- ---- one item
 
@@ -216,3 +223,99 @@ matrix_takes count bytes =
     let w = walk_takes push (arc_marks_from count) row_text (IsRow count) (row_takes count) count 0 [] bytes in
     let same : (arc_marks count bytes).0 ≡ w.items = w.made ∙ push_all (arc_marks_from count) row_text (IsRow count) 0 [] w.items in
     (subst (IsMatrix count) (sym same) w.fits, w.whole ∙ ap (λ (xs : List (List Bool)). matrix_text count xs ++ (arc_marks count bytes).1) (sym same))
+
+-- ---- the line
+
+abbrev pub wires_line : List (List ℕ) → ℕ × List (List Bool) → List ℕ
+wires_line names d = codes "  wire " ++ (items_text gate_item d.0 0 ++ (condition_names (eqb d.0 0) names ++ (matrix_text (length names) d.1 ++ close)))
+
+-- a few gates, and a bit for each two operations; and one wire at least
+pub record IsWires (inputs : ℕ) (names : List (List ℕ)) (d : ℕ × List (List Bool)) : Type 0 where
+  pub few : d.0 ≤ gate_room inputs
+  pub matrix : IsMatrix (length names) d.1
+  pub some : 0 < d.0 + length names
+
+conditions_first : (first : Bool) (w : List ℕ) (ws : List (List ℕ)) → (r : List ℕ) × (condition_names first (w ∷ ws) ≡ separator first ++ (99 ∷ r))
+conditions_first first w ws = (_, ap (joined first) (below_front (λ v. (codes "c_" ++ name_of (w ∷ ws) v) ∷ []) (length ws)))
+
+no_rows : (rows : List (List Bool)) → IsMatrix 0 rows → rows ≡ []
+no_rows [] h = refl
+no_rows (r ∷ rows) h = absurd h
+
+no_gate : (g : ℕ) (names : List (List ℕ)) (rows : List (List Bool)) → IsMatrix (length names) rows → 0 < g + length names → behind (gate_item (0 + g)) (condition_names (eqb g 0) names ++ (matrix_text (length names) rows ++ close)) ≡ None
+no_gate zero [] rows m some = absurd (omega (arith, some))
+no_gate zero (w ∷ ws) rows m some =
+    let c = conditions_first true w ws in
+    none_behind (gate_item (0 + zero)) _ (λ rest e. omega (arith, heads 99 103 _ _ (sym (ap (λ (x : List ℕ). x ++ (matrix_text (length (w ∷ ws)) rows ++ close)) c.1) ∙ e)))
+no_gate (suc g) [] rows m some =
+    ap (λ (b : Bool). behind (separator b ++ (codes "g" ++ decimal (0 + suc g))) (condition_names (eqb (suc g) 0) [] ++ (matrix_text 0 rows ++ close))) (positive g)
+    ∙ ap (λ (x : List (List Bool)). behind (codes ", " ++ (codes "g" ++ decimal (0 + suc g))) (matrix_text 0 x ++ close)) (no_rows rows m)
+    ∙ none_behind (codes ", " ++ (codes "g" ++ decimal (0 + suc g))) close (λ rest e. omega (arith, heads 59 44 _ _ e))
+  where
+    positive : (g : ℕ) → eqb (0 + suc g) 0 ≡ false
+    positive g = ne_eqb (0 + suc g) 0 (λ e. omega (arith, e))
+no_gate (suc g) (w ∷ ws) rows m some =
+    let c = conditions_first false w ws in
+    let later : eqb (0 + suc g) 0 ≡ false = ne_eqb (0 + suc g) 0 (λ e. omega (arith, e)) in
+    let later_too : eqb (suc g) 0 ≡ false = ne_eqb (suc g) 0 (λ e. omega (arith, e)) in
+    ap₂ (λ (b d : Bool). behind (separator b ++ (codes "g" ++ decimal (0 + suc g))) (condition_names d (w ∷ ws) ++ (matrix_text (length (w ∷ ws)) rows ++ close))) later later_too
+    ∙ none_behind (codes ", " ++ (codes "g" ++ decimal (0 + suc g))) _ (λ rest e. omega (arith, heads 99 103 _ _ (tails 32 32 _ _ (tails 44 44 _ _ (sym (ap (λ (x : List ℕ). x ++ (matrix_text (length (w ∷ ws)) rows ++ close)) c.1) ∙ e)))))
+
+some_wires : (g count : ℕ) → 0 < g + count → (ltb 0 g || ltb 0 count) ≡ true
+some_wires zero count h = lt-ltb 0 count (omega (arith, h))
+some_wires (suc g) count h = ap (λ (b : Bool). b || ltb 0 count) (lt-ltb 0 (suc g) (omega arith))
+
+are_some : (g count : ℕ) → (ltb 0 g || ltb 0 count) ≡ true → 0 < g + count
+are_some g count h = elim (cases_Bool (ltb 0 g)) [
+  | inl l ↦ omega (arith, ltb-true 0 g l)
+  | inr n ↦ omega (arith, ltb-true 0 count (other (ltb 0 g) (ltb 0 count) n h))
+]
+  where
+    other : (a b : Bool) → a ≡ false → (a || b) ≡ true → b ≡ true
+    other false b p q = q
+    other true b p q = absurd cc
+
+closed : (g count : ℕ) (rows : List (List Bool)) → 0 < g + count → wires_from g count (rows, close) ≡ Some (g, rows)
+closed g count rows some = ap (λ (b : Bool). cond {A = Option (ℕ × List (List Bool))} (b && true) (Some (g, rows)) None) (some_wires g count some)
+
+wires_again : (inputs : ℕ) (names : List (List ℕ)) (g : ℕ) (rows : List (List Bool)) → length names ≤ 128 → IsWires inputs names (g, rows) → wires_in inputs names (wires_line names (g, rows)) ≡ Some (g, rows)
+unfolding wires_in
+wires_again inputs names g rows few fits =
+    let marks : List ℕ = matrix_text (length names) rows ++ close in
+    let more : List ℕ = condition_names (eqb g 0) names ++ marks in
+    let first : behind (codes "  wire ") (wires_line names (g, rows)) ≡ Some (items_text gate_item g 0 ++ more) = behind_again (codes "  wire ") (items_text gate_item g 0 ++ more) in
+    let ran : run gate_item (gate_room inputs) 0 (items_text gate_item g 0 ++ more) ≡ (0 + g, more) = run_again gate_item (gate_room inputs) 0 g more fits.few (no_gate g names rows fits.matrix fits.some) in
+    let zero_more : (0 + g) ≡ g = omega arith in
+    let named : behind (condition_names (eqb g 0) names) more ≡ Some marks = behind_again (condition_names (eqb g 0) names) marks in
+    ap (λ (o : Option (List ℕ)). o >>=? λ rest. wires_behind names (run gate_item (gate_room inputs) 0 rest)) first
+    ∙ ap (wires_behind names) (ran ∙ ap (λ (k : ℕ). so_far k more) zero_more)
+    ∙ ap (λ (o : Option (List ℕ)). o >>=? λ rest. wires_from g (length names) (arc_marks (length names) rest)) named
+    ∙ ap (wires_from g (length names)) (matrix_again (length names) rows few fits.matrix)
+    ∙ closed g (length names) rows fits.some
+  where
+    so_far : ℕ → List ℕ → ℕ × List ℕ
+    so_far k rest = (k, rest)
+
+wires_take : (inputs : ℕ) (names : List (List ℕ)) (line : List ℕ) (d : ℕ × List (List Bool)) → wires_in inputs names line ≡ Some d → IsWires inputs names d × (line ≡ wires_line names d)
+unfolding wires_in
+wires_take inputs names line d e =
+    let a = some_of _ _ d e in
+    let ran = run gate_item (gate_room inputs) 0 a.0 in
+    let r = run_takes gate_item (gate_room inputs) 0 a.0 in
+    let b = some_of (behind (condition_names (eqb ran.0 0) names) ran.1) (λ rest. wires_from ran.0 (length names) (arc_marks (length names) rest)) d a.2 in
+    let found = arc_marks (length names) b.0 in
+    let m = matrix_takes (length names) b.0 in
+    let t = tested ((ltb 0 ran.0 || ltb 0 (length names)) && bytes_eq found.1 close) (ran.0, found.0) d b.2 in
+    let both = both_true _ _ t.0 in
+    let count : ran.0 ≡ r.count = omega (arith, r.stops) in
+    let end : found.1 ≡ close = (bytes_eq-Decides _ _).0 both.1 in
+    let fits : IsWires inputs names (ran.0, found.0) = record { few = omega (arith, r.few, count); matrix = m.0; some = are_some ran.0 (length names) both.0 } in
+    let marks : b.0 ≡ matrix_text (length names) found.0 ++ close = m.1 ∙ ap (λ (x : List ℕ). matrix_text (length names) found.0 ++ x) end in
+    let whole : line ≡ wires_line names (ran.0, found.0) =
+    behind_takes (codes "  wire ") line a.0 a.1
+    ∙ ap (λ (x : List ℕ). codes "  wire " ++ x) (r.whole ∙ ap₂ (λ (k : ℕ) (x : List ℕ). items_text gate_item k 0 ++ x) (sym count)
+    (behind_takes (condition_names (eqb ran.0 0) names) ran.1 b.0 b.1 ∙ ap (λ (x : List ℕ). condition_names (eqb ran.0 0) names ++ x) marks)) in
+    subst (λ (y : ℕ × List (List Bool)). IsWires inputs names y × (line ≡ wires_line names y)) t.1 (fits, whole)
+
+pub wires_exact : (inputs : ℕ) (names : List (List ℕ)) → length names ≤ 128 → IsExact (IsWires inputs names) (wires_line names) (wires_in inputs names)
+wires_exact inputs names few = record { again = λ d fits. wires_again inputs names d.0 d.1 few fits; takes = λ line d e. wires_take inputs names line d e }
