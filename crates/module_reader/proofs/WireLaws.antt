@@ -151,7 +151,7 @@ arc_kept : (u v : ℕ) (b : Bool) (rest : List ℕ) → u < 128 → v < 128 → 
 arc_kept u v false rest hu hv left = passed u v rest left
 arc_kept u v true rest hu hv left = inr (record { first = u; second = v; more = rest; whole = refl; ends = left_ends u (v + 1) rest left; below = hu; below_too = hv; later = inr (refl, omega arith) })
 
-abbrev push : {A : Type 0} → ℕ → List A → A → List A
+abbrev pub push : {A : Type 0} → ℕ → List A → A → List A
 push v done x = done ++ x ∷ []
 
 push_all : {A : Type 0} (step : ℕ → List ℕ → A × List ℕ) (t : ℕ → A → List ℕ) (F : ℕ → A → Type 0) (i : ℕ) (done xs : List A) → puts push step t F i done xs ≡ done ++ xs

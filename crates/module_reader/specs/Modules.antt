@@ -1,5 +1,5 @@
 -- How a module is read from its lines.
-use Rattle.std.specs.Prelude.{ℕ, ◌+◌, ◌==◌, ◌&&◌, ◌||◌, nat_le, nat_lt, Bool, true, false, List, [], ◌∷◌, ◌++◌, length, map, take, slice_index_or, Option, None, Some, Result, Ok, Err, codes, if◌then◌else◌}
+use Rattle.std.specs.Prelude.{ℕ, ◌+◌, ◌==◌, ◌&&◌, ◌||◌, nat_le, nat_lt, Bool, true, false, List, [], ◌∷◌, ◌++◌, length, map, slice_index_or, is_some, Option, None, Some, Result, Ok, Err, codes, if◌then◌else◌}
 use Rattle.std.specs.Fmt.{decimal}
 use Rattle.std.specs.Str.{bytes_eq}
 use Rattle.std.specs.FinSet as set
@@ -156,7 +156,7 @@ undeclared_at inputs names line p = read_or_fault (exactly (done_line inputs nam
 
 -- with an operation there is an inner wire
 abbrev pub declares : List (List ℕ) → List ℕ → Bool
-declares names line = nat_lt 0 (length names) || bytes_eq (take 7 line) (codes "  wire ")
+declares names line = nat_lt 0 (length names) || is_some (behind (codes "  wire ") line)
 
 abbrev pub body_from : ℕ → List (List ℕ) → List ℕ × Position → Result (Netlist × Position) ℕ
 body_from inputs names x = if declares names x.0 then declared_at inputs names x.0 x.1 else undeclared_at inputs names x.0 x.1
