@@ -79,7 +79,7 @@ last_rows inputs names =
     rows-view nothing Nothing (λ _. last_lines inputs names) (rows-then (rows-row (exact-exactly (idle_line inputs names)) (tt, tt)) (λ _ _. rows-row (exact-exactly (codes "endmodule")) (tt, tt)))
     (λ b h. ((tt, tt), (tt, tt), refl, refl)) (λ a h. (tt, refl))
 
-ends_rows : (inputs : ℕ) (names : List (List ℕ)) → IsRows Nothing (λ _. end_lines inputs names) (ends_at inputs names)
+pub ends_rows : (inputs : ℕ) (names : List (List ℕ)) → IsRows Nothing (λ _. end_lines inputs names) (ends_at inputs names)
 unfolding ends_at
 ends_rows inputs names =
     rows-view nothing Nothing (λ _. end_lines inputs names) (rows-then (rows-row (exact-exactly (done_line inputs names)) (tt, tt)) (λ _ _. last_rows inputs names))
@@ -132,10 +132,10 @@ pub record IsFull (inputs : ℕ) (names : List (List ℕ)) (n : Netlist) : Type 
 abbrev pub full_lines : ℕ → List (List ℕ) → Netlist → List (List ℕ)
 full_lines inputs names n = wires_line names (wires_of n) ∷ parts_lines inputs names (parts_of n)
 
-abbrev second_of : {A B : Type 0} → A × B → B
+abbrev pub second_of : {A B : Type 0} → A × B → B
 second_of x = x.1
 
-full_at : ℕ → List (List ℕ) → Position → Result (Netlist × Position) ℕ
+abbrev pub full_at : ℕ → List (List ℕ) → Position → Result (Netlist × Position) ℕ
 full_at inputs names = view_of second_of (then_of (row (wires_in inputs names)) (netlist_at inputs names))
 
 room_ahead : (inputs count : ℕ) → 1 ≤ inputs → inputs ≤ 8 → count ≤ gate_room inputs → Ahead inputs count 0
@@ -157,8 +157,7 @@ WiresFit inputs names x = IsWires inputs names x.0 × IsNetlistFor inputs names 
 some_line : (inputs : ℕ) (names : List (List ℕ)) → (d : ℕ × List (List Bool)) × IsWires inputs names d → (d : ℕ × List (List Bool)) × IsWires inputs names d
 some_line inputs names d = d
 
-full_rows : (inputs : ℕ) (names : List (List ℕ)) → 1 ≤ inputs → inputs ≤ 8 → AreGood names → (d : ℕ × List (List Bool)) × IsWires inputs names d → IsRows (IsFull inputs names) (full_lines inputs names) (full_at inputs names)
-unfolding full_at
+pub full_rows : (inputs : ℕ) (names : List (List ℕ)) → 1 ≤ inputs → inputs ≤ 8 → AreGood names → (d : ℕ × List (List Bool)) × IsWires inputs names d → IsRows (IsFull inputs names) (full_lines inputs names) (full_at inputs names)
 full_rows inputs names some few good witness =
     rows-view second_of (IsFull inputs names) (full_lines inputs names)
     (rows-then (rows-row (wires_exact inputs names good.few) witness) (λ d w. netlist_rows inputs names d (room_ahead inputs d.0 some few w.few) good))
