@@ -33,7 +33,7 @@ bit_at [] v = refl
 bit_at (w ∷ ws) zero = refl
 bit_at (w ∷ ws) (suc v) = bit_at ws v
 
-row_at : (wires : Wires) (u : ℕ) → get_or (bits_of wires) u [] ≡ map is_some (get_or wires u [])
+pub row_at : (wires : Wires) (u : ℕ) → get_or (bits_of wires) u [] ≡ map is_some (get_or wires u [])
 row_at [] u = refl
 row_at (ws ∷ wires) zero = refl
 row_at (ws ∷ wires) (suc u) = row_at wires u
