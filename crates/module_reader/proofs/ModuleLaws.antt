@@ -27,12 +27,12 @@ use Rattle.line_rows.specs.Words.{behind}
 use Rattle.line_rows.proofs.Exact.{behind_again, behind_takes, none_where}
 use Rattle.line_rows.proofs.EitherLaws.{Begun, rows-either}
 use Rattle.line_rows.proofs.RowLaws.{at, IsRows, rows-then, rows-view, FitsMany}
-use Rattle.module_reader.specs.Modules.{header_line, inputs_line, outputs_line, ports_at, done_line, last_at, ends_at, netlist_of, netlist_at, no_netlist, declared_at, undeclared_at, declares, body_from, body_at, is_declared, wires_in, gate_room, module_from, module_at}
+use Rattle.module_reader.specs.Modules.{header_line, inputs_line, outputs_line, ports_at, done_line, last_at, ends_at, netlist_of, netlist_at, no_netlist, declared_at, undeclared_at, declares, body_from, body_at, is_declared, wires_in, gate_room, module_from, module_at, IsPorts}
 use Rattle.module_reader.proofs.RowLaws.{rows-same, SoManyRefs}
 use Rattle.module_reader.proofs.ArcLaws.{IsDeclared, AreDeclared, AreAllDeclared}
 use Rattle.module_reader.proofs.MatrixLaws.{bits_of, fits_count, fit_at, fits_length}
 use Rattle.module_reader.proofs.MatrixLaws as matrices
-use Rattle.module_reader.proofs.PortLaws.{none_behind, IsPorts, ports_lines, ports_rows}
+use Rattle.module_reader.proofs.PortLaws.{none_behind, ports_lines, ports_rows}
 use Rattle.module_reader.proofs.WireLaws.{NotOwn, IsRow, IsMatrix, IsWires, wires_line, wires_exact}
 use Rattle.module_reader.proofs.RequestLaws.{IsWaits}
 use Rattle.module_reader.proofs.BodyLaws.{AreAllWaits, AreGood, IsNetlistFor, wires_of, IsFull, full_lines, full_at, full_rows, second_of, ends_rows, end_lines}

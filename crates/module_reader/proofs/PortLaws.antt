@@ -21,7 +21,7 @@ use Rattle.line_rows.specs.Words.{◌>>=?◌, behind}
 use Rattle.line_rows.proofs.Exact.{IsExact, behind_again, behind_takes, some_of, tested, both_true, same_bytes, none_where}
 use Rattle.line_rows.proofs.RowLaws.{IsRows, rows-row, rows-then, rows-view, exact-exactly}
 use Rattle.module_reader.specs.Lists.{run, names_run}
-use Rattle.module_reader.specs.Modules.{inputs_text, outputs_text, header_line, inputs_line, outputs_line, input_item, header_end, header_from, header_names, header_in, first_of, ports_at}
+use Rattle.module_reader.specs.Modules.{inputs_text, outputs_text, header_line, inputs_line, outputs_line, input_item, header_end, header_from, header_names, header_in, first_of, ports_at, IsPorts}
 use Rattle.module_reader.proofs.RowLaws.{below_front}
 use Rattle.module_reader.proofs.ListLaws.{items_text, run_takes, run_again, items_joined}
 use Rattle.module_reader.proofs.NameLaws.{names_text, names_take, names_again, AreNew, Follows, new_are_distinct, distinct_are_new}
@@ -87,14 +87,6 @@ follows names =
       comma = f.2;
       no_name = none_behind (codes ", a_") (header_end names) (λ rest e. omega (arith, f.3, heads f.0 97 _ _ (tails 32 32 _ _ (tails 44 44 _ _ (sym f.2 ∙ e)))));
     }
-
--- with 1 to 8 inputs, and at most 128 names that are distinct and no keywords
-pub record IsPorts (h : ℕ × List (List ℕ)) : Type 0 where
-  pub some : 1 ≤ h.0
-  pub few : h.0 ≤ 8
-  pub free : AllByRecursion (λ w. is_free_name w ≡ true) h.1
-  pub distinct : AreDistinct h.1
-  pub few_names : length h.1 ≤ 128
 
 no_more_inputs : (k : ℕ) (rest : List ℕ) → 1 ≤ k → behind (input_item (0 + k)) (codes ", go" ++ rest) ≡ None
 no_more_inputs k rest some =

@@ -22,15 +22,15 @@ use Rattle.netlist_verilog.specs.Rows.{joined, signals_from, for_each, module_li
 use Rattle.line_rows.proofs.RowLaws.{IsRows, rows-then, rows-view, FitsMany, whole_found, whole_first_bad}
 use Rattle.line_rows.specs.declared.fault.ReadError.{ReadError}
 use Rattle.line_rows.specs.declared.fault.ReadError.TheVariants as errors
-use Rattle.line_rows.specs.Reading.{Gives, whole}
+use Rattle.line_rows.specs.Reading.{Fails, whole}
 use Rattle.line_rows.specs.FirstBad as rows
 use Rattle.text_rows.specs.FirstBad.{IsFirstBad, NoneBegins}
 use Rattle.module_reader.specs.Faults.{IsModuleText}
-use Rattle.module_reader.specs.Modules.{is_declared, no_netlist, gate_room, module_from, module_at}
+use Rattle.module_reader.specs.Modules.{is_declared, no_netlist, gate_room, module_from, module_at, IsPorts}
 use Rattle.module_reader.proofs.RowLaws.{SoManyRefs}
 use Rattle.module_reader.proofs.ArcLaws.{IsDeclared, AreDeclared, AreAllDeclared}
 use Rattle.module_reader.proofs.MatrixLaws.{bits_of, row_at, declared_at, fits_count, fit_at, fits_length}
-use Rattle.module_reader.proofs.PortLaws.{IsPorts, ports_lines, ports_rows}
+use Rattle.module_reader.proofs.PortLaws.{ports_lines, ports_rows}
 use Rattle.module_reader.proofs.WireLaws.{NotOwn, IsRow, IsMatrix, IsWires}
 use Rattle.module_reader.proofs.RequestLaws.{IsWaits}
 use Rattle.module_reader.proofs.BodyLaws.{AreAllWaits, AreGood, IsNetlistFor, wires_of, IsFull}
@@ -255,3 +255,6 @@ pub is_first : (lines : List (List ℕ)) (k : ℕ) → whole module_at lines ≡
 is_first lines k given =
     let f = whole_first_bad module_law lines k given in
     record { good = f.good; after = f.after; parts = f.parts; number = f.number; begins = (f.begins.1, (f.begins.0, f.begins.2, sym f.begins.3)); none = none_begin f.good f.after f.none }
+
+pub fault_first : (lines : List (List ℕ)) (e : ReadError) (k : ℕ) → e ≡ errors.BadLine k → Fails e (whole module_at lines) → IsFirstBad IsModuleText lines k
+fault_first lines e k is h = is_first lines k (subst (λ (x : ReadError). Fails x (whole module_at lines)) is h)

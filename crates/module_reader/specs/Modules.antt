@@ -1,7 +1,10 @@
 -- How a module is read from its lines.
-use Rattle.std.specs.Prelude.{ℕ, ◌+◌, ◌==◌, ◌&&◌, ◌||◌, nat_le, nat_lt, Bool, true, false, List, [], ◌∷◌, ◌++◌, length, map, slice_index_or, is_some, Option, None, Some, Result, Ok, Err, codes, if◌then◌else◌}
+use Rattle.std.specs.Prelude.{◌≡◌, ℕ, ◌≤◌, ◌+◌, ◌==◌, ◌&&◌, ◌||◌, nat_le, nat_lt, Bool, true, false, List, [], ◌∷◌, ◌++◌, length, map, slice_index_or, is_some, Option, None, Some, Result, Ok, Err, codes, if◌then◌else◌}
 use Rattle.std.specs.Fmt.{decimal}
+use Rattle.std.specs.List.{AllByRecursion}
 use Rattle.std.specs.Str.{bytes_eq}
+use Rattle.cpog_base.specs.Names.{AreDistinct}
+use Rattle.line_text.specs.Words.{is_free_name}
 use Rattle.std.specs.FinSet as set
 use Rattle.cpog_defs.specs.declared.types.Gate.{Gate}
 use Rattle.cpog_defs.specs.declared.types.Ref.{Ref}
@@ -57,6 +60,14 @@ header_names x = behind (codes ", go") x.1 >>=? λ rest. header_from x.0 (names_
 -- how many inputs the header has, and the names of its operations
 unfoldable pub header_in : List ℕ → Option (ℕ × List (List ℕ))
 header_in line = behind (codes "module cpog(") line >>=? λ rest. header_names (run input_item 8 0 rest)
+
+-- with 1 to 8 inputs, and at most 128 names that are distinct and no keywords
+pub record IsPorts (h : ℕ × List (List ℕ)) : Type 0 where
+  pub some : 1 ≤ h.0
+  pub few : h.0 ≤ 8
+  pub free : AllByRecursion (λ w. is_free_name w ≡ true) h.1
+  pub distinct : AreDistinct h.1
+  pub few_names : length h.1 ≤ 128
 
 abbrev pub first_of : {A B : Type 0} → A × B → A
 first_of x = x.0
