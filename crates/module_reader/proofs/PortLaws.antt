@@ -38,7 +38,7 @@ below_same {A = A} f g (suc n) h = ap₂ (λ (x y : List A). x ++ y) (below_same
 pub input_word : (inputs k : ℕ) → k < inputs → signal_text inputs (0 + k) ≡ codes "x" ++ decimal (0 + k)
 input_word inputs k lt = let l : (0 + k) < inputs = omega (arith, lt) in rw (lt-ltb (0 + k) inputs l) refl
 
-abbrev acknowledges : List (List ℕ) → List (List ℕ)
+abbrev pub acknowledges : List (List ℕ) → List (List ℕ)
 acknowledges names = each_below (λ v. (codes "a_" ++ name_of names v) ∷ []) (length names)
 
 names_joined : (names : List (List ℕ)) → joined false (acknowledges names) ≡ names_text names
@@ -48,18 +48,23 @@ names_joined (w ∷ ws) = ap (joined false) (below_front (λ v. (codes "a_" ++ n
 positive : (n : ℕ) → 1 ≤ n → eqb n 0 ≡ false
 positive n h = ne_eqb n 0 (λ e. omega (arith, e, h))
 
-pub inputs_split : (inputs : ℕ) (names : List (List ℕ)) → 1 ≤ inputs → inputs_text inputs names ≡ items_text input_item inputs 0 ++ (codes ", go" ++ names_text names)
-inputs_split inputs names some =
-    let signals : List (List ℕ) = each_below (λ k. signal_text inputs (0 + k) ∷ []) inputs in
-    let texts : map (wire_text inputs names) (signals_from 0 inputs ++ (Go ∷ for_each Acknowledge (length names))) ≡ signals ++ (codes "go" ∷ acknowledges names) =
+abbrev pub signals_of : ℕ → List (List ℕ)
+signals_of inputs = each_below (λ k. signal_text inputs (0 + k) ∷ []) inputs
+
+pub inputs_parts : (inputs : ℕ) (names : List (List ℕ)) → 1 ≤ inputs → inputs_text inputs names ≡ joined true (signals_of inputs) ++ (codes ", go" ++ joined false (acknowledges names))
+inputs_parts inputs names some =
+    let texts : map (wire_text inputs names) (signals_from 0 inputs ++ (Go ∷ for_each Acknowledge (length names))) ≡ signals_of inputs ++ (codes "go" ∷ acknowledges names) =
     map-append (wire_text inputs names) (signals_from 0 inputs) (Go ∷ for_each Acknowledge (length names))
     ∙ ap₂ (λ (x y : List (List ℕ)). x ++ (codes "go" ∷ y)) (map_ones (wire_text inputs names) (λ k. Signal (0 + k)) inputs) (map_ones (wire_text inputs names) Acknowledge (length names)) in
-    let same : signals ≡ each_below (λ k. (codes "x" ++ decimal (0 + k)) ∷ []) inputs = below_same _ _ inputs (λ k lt. ap (λ (t : List ℕ). t ∷ []) (input_word inputs k lt)) in
-    ap (joined true) texts
-    ∙ middle (codes "go") signals (acknowledges names) (nil_below (λ k. signal_text inputs (0 + k)) inputs ∙ positive inputs some)
+    ap (joined true) texts ∙ middle (codes "go") (signals_of inputs) (acknowledges names) (nil_below (λ k. signal_text inputs (0 + k)) inputs ∙ positive inputs some)
+
+pub inputs_split : (inputs : ℕ) (names : List (List ℕ)) → 1 ≤ inputs → inputs_text inputs names ≡ items_text input_item inputs 0 ++ (codes ", go" ++ names_text names)
+inputs_split inputs names some =
+    let same : signals_of inputs ≡ each_below (λ k. (codes "x" ++ decimal (0 + k)) ∷ []) inputs = below_same _ _ inputs (λ k lt. ap (λ (t : List ℕ). t ∷ []) (input_word inputs k lt)) in
+    inputs_parts inputs names some
     ∙ ap₂ (λ (x y : List ℕ). x ++ (codes ", go" ++ y)) (ap (joined true) same ∙ sym (items_joined (λ j. codes "x" ++ decimal j) inputs 0)) (names_joined names)
 
-abbrev requests : List (List ℕ) → List (List ℕ)
+abbrev pub requests : List (List ℕ) → List (List ℕ)
 requests names = each_below (λ v. (codes "r_" ++ name_of names v) ∷ []) (length names)
 
 pub outputs_are : (inputs : ℕ) (names : List (List ℕ)) → outputs_text inputs names ≡ joined true (requests names ++ (codes "done" ∷ codes "idle" ∷ []))
@@ -169,3 +174,8 @@ ports_rows =
     (rows-then (rows-row header_exact ((1, []), some_ports)) (λ h _. rows-then (rows-row (exact-exactly (inputs_line h.0 h.1)) (tt, tt)) (λ _ _. rows-row (exact-exactly (outputs_line h.0 h.1)) (tt, tt))))
     (λ h fits. ((h, (tt, tt)), (fits, (tt, tt)), refl, refl))
     (λ x fits. (fits.0, refl))
+
+-- what the parts of the line say
+pub header_by : (line rest : List ℕ) (x : ℕ × List ℕ) → behind (codes "module cpog(") line ≡ Some rest → x ≡ run input_item 8 0 rest → header_names x ≡ header_in line
+unfolding header_in
+header_by line rest x first ran = ap header_names ran ∙ sym (ap (λ (o : Option (List ℕ)). o >>=? λ r. header_names (run input_item 8 0 r)) first)

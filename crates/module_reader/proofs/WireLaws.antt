@@ -319,3 +319,9 @@ wires_take inputs names line d e =
 
 pub wires_exact : (inputs : ℕ) (names : List (List ℕ)) → length names ≤ 128 → IsExact (IsWires inputs names) (wires_line names) (wires_in inputs names)
 wires_exact inputs names few = record { again = λ d fits. wires_again inputs names d.0 d.1 few fits; takes = λ line d e. wires_take inputs names line d e }
+
+-- what the parts of the line say
+pub wires_by : (inputs limit : ℕ) (names : List (List ℕ)) (line rest : List ℕ) (x : ℕ × List ℕ) → behind (codes "  wire ") line ≡ Some rest → limit ≡ gate_room inputs → x ≡ run gate_item limit 0 rest → wires_behind names x ≡ wires_in inputs names line
+unfolding wires_in
+wires_by inputs limit names line rest x first room ran =
+    ap (wires_behind names) (ran ∙ ap (λ (k : ℕ). run gate_item k 0 rest) room) ∙ sym (ap (λ (o : Option (List ℕ)). o >>=? λ r. wires_behind names (run gate_item (gate_room inputs) 0 r)) first)

@@ -5,3 +5,4 @@ pub mod Lists
 pub mod Modules
 pub mod Faults
 pub mod Laws
+pub mod Values

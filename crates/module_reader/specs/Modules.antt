@@ -157,6 +157,10 @@ netlist_at inputs names d =
 abbrev pub no_netlist : ℕ → Netlist
 no_netlist inputs = netlist_of inputs [] [] [] []
 
+-- a module with these inputs and names, for texts that depend on no more
+abbrev pub plain_module : ℕ → List (List ℕ) → ModuleValue
+plain_module inputs names = record { names = names; netlist = no_netlist inputs }
+
 -- the netlist from the line of its inner wires on
 abbrev pub declared_at : ℕ → List (List ℕ) → List ℕ → Position → Result (Netlist × Position) ℕ
 declared_at inputs names line p = read_or_fault (wires_in inputs names line) p >>= λ d. netlist_at inputs names d.0 d.1
