@@ -3,3 +3,4 @@ pub mod Position
 pub mod Reading
 pub mod FirstBad
 pub mod Either
+pub mod Spelling
