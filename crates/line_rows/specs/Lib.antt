@@ -4,3 +4,4 @@ pub mod Reading
 pub mod FirstBad
 pub mod Either
 pub mod Spelling
+pub mod Lined
