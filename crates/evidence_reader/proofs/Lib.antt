@@ -1,1 +1,2 @@
 pub mod LogLineLaws
+pub mod HeadLaws

@@ -16,11 +16,13 @@ use Rattle.evidence_reader.specs.declared.heads.EvidenceHead.TheVariants as evid
 use Rattle.evidence_reader.specs.declared.heads.OpenHead.{OpenHead}
 use Rattle.evidence_reader.specs.declared.heads.OpenHead.TheVariants as open_heads
 
+-- the template of a number
+abbrev pub kind_of : ℕ → Option Template
+kind_of n = if n == 1 then Some First else if n == 2 then Some Second else if n == 3 then Some Third else None
+
 -- a template by its number
 unfoldable pub kind_in : List ℕ → Option Template
-kind_in word =
-    if bytes_eq word (codes "1") then Some First else if bytes_eq word (codes "2") then Some Second
-    else if bytes_eq word (codes "3") then Some Third else None
+kind_in = made_of kind_of (number_in 4)
 
 -- a template and its number of gates, which is below the limit
 unfoldable pub template_in : ℕ → List ℕ → Option (Template × ℕ)
