@@ -1,2 +1,3 @@
 pub mod LogLineLaws
 pub mod HeadLaws
+pub mod ShownLaws
