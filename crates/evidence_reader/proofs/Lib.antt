@@ -1,3 +1,4 @@
 pub mod LogLineLaws
 pub mod HeadLaws
 pub mod ShownLaws
+pub mod NameLemmas

@@ -6,6 +6,7 @@
 #![tactic(auto)]
 
 mod heads;
+mod places;
 mod shown;
 
 pub use shown::{Shown, shown_rows};
