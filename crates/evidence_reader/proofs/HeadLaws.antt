@@ -1,16 +1,15 @@
 -- The first lines of evidence and of what is left open, and the places of a count, are read exactly.
-use Rattle.std.proofs.Common.{◌≡◌, ◌≢◌, ℕ, ◌+◌, ◌<◌, ◌≤◌, ◌^◌, Bool, true, false, eqb, List, [], ◌∷◌, ◌++◌, length, get_or, Option, Some, None, refl, sym, ap, ap₂, subst, ◌∙◌, arith, inl, inr, ◌⊎◌}
+use Rattle.std.proofs.Common.{◌≡◌, ◌≢◌, ℕ, ◌<◌, ◌≤◌, ◌^◌, true, false, List, [], ◌∷◌, ◌++◌, length, Option, Some, None, refl, sym, ap, subst, ◌∙◌, arith, inl, inr}
 use Rattle.std.specs.Prelude.{codes, ◌==◌}
 use Rattle.std.specs.Fmt.{decimal}
 use Rattle.std.specs.Str.{bytes_eq}
-use Rattle.std.specs.List.{AllByRecursion, All, position_or_len}
-use Rattle.std.proofs.lemmas.Bool.{cases_Bool, lt-ltb, ltb-true, ne_eqb, eqb-true, eqb-false}
+use Rattle.std.specs.List.{AllByRecursion, position_or_len}
+use Rattle.std.proofs.lemmas.Bool.{cases_Bool, lt-ltb, ne_eqb, eqb-true, eqb-false}
 use Rattle.std.proofs.lemmas.List.Sums.{position_or_len_is}
 use Rattle.std.proofs.lemmas.List.Quantifiers.{position-Some}
 use Rattle.std.proofs.lemmas.List.Elements.{All-from_recursion}
 use Rattle.std.proofs.lemmas.Slice.Eq.{bytes_eq-Decides}
-use Rattle.cpog_base.specs.Names.{AreDistinct, place_of}
-use Rattle.cpog_defs.specs.declared.types.OpId.{OpId}
+use Rattle.cpog_base.specs.Names.{AreDistinct}
 use Rattle.cpog_defs.specs.declared.types.Place.{Place}
 use Rattle.cpog_defs.specs.declared.types.Place.TheVariants.{Op, Arc}
 use Rattle.cpog_defs.specs.Graphs.{IsPlace}
@@ -22,9 +21,8 @@ use Rattle.netlist_verilog.proofs.WordLemmas.{name_is}
 use Rattle.gate_template.specs.declared.types.Template.{Template}
 use Rattle.gate_template.specs.declared.types.Template.TheVariants.{First, Second, Third}
 use Rattle.report_text.specs.Rows.{template_number, template_text, place_row}
-use Rattle.line_rows.specs.Words.{◌>>=?◌, number_in, behind, behind_of, pair_of, made_of}
+use Rattle.line_rows.specs.Words.{behind, behind_of, pair_of, made_of}
 use Rattle.line_rows.proofs.Exact.{IsExact, IsWord, number_exact, exact-pair, exact-made, decimal_word, is_blank, some_of, some_is, chosen, same_bytes, behind_again, behind_takes}
-use Rattle.evidence_reader.specs.LogLines.{first_of}
 use Rattle.evidence_reader.specs.Rows.{kind_of, kind_in, template_in, evidence_row, IsEvidenceHead, refutation_of, evidence_head_in, open_row, IsOpenHead, open_log_of, open_size_of, open_head_in, known_in, op_of, arc_of, place_in, is_member_row}
 use Rattle.evidence_reader.specs.declared.heads.EvidenceHead.{EvidenceHead}
 use Rattle.evidence_reader.specs.declared.heads.EvidenceHead.TheVariants as evidence_heads
@@ -33,12 +31,6 @@ use Rattle.evidence_reader.specs.declared.heads.OpenHead.TheVariants as open_hea
 use Rattle.evidence_reader.proofs.LogLineLaws.{bytes_apart, first_from}
 
 -- ---- templates
-
-IsAny : Template → Type 0
-IsAny kind = Unit {0}
-
-kind_text : Template → List ℕ
-kind_text kind = decimal (template_number kind)
 
 number_small : (kind : Template) → template_number kind < 4
 number_small First = omega arith

@@ -1,5 +1,5 @@
 -- A line of a log is read exactly.
-use Rattle.std.proofs.Common.{◌≡◌, ℕ, ◌+◌, ◌<◌, ◌≤◌, ◌^◌, Bool, true, false, List, [], ◌∷◌, ◌++◌, map, Option, Some, None, refl, sym, ap, subst, ◌∙◌, arith, inl, inr, ◌⊎◌}
+use Rattle.std.proofs.Common.{◌≡◌, ℕ, ◌+◌, ◌<◌, ◌≤◌, Bool, true, false, List, [], ◌∷◌, ◌++◌, map, Option, Some, None, refl, sym, ap, subst, ◌∙◌, arith, inl, inr, ◌⊎◌}
 use Rattle.std.specs.Prelude.{codes, nat_lt}
 use Rattle.std.specs.Fmt.{decimal}
 use Rattle.std.specs.Str.{bytes_eq}
@@ -8,13 +8,13 @@ use Rattle.std.proofs.lemmas.Bool.{cases_Bool, lt-ltb, ltb-true}
 use Rattle.std.proofs.lemmas.List.{append-nil}
 use Rattle.std.proofs.lemmas.Slice.Eq.{bytes_eq-Decides}
 use Rattle.clause_arena.specs.Clauses.{Lit, Clause}
-use Rattle.proof_check.specs.Lines.{Line}
+use Rattle.proof_check.specs.Lines.{Line, ArePositive}
 use Rattle.text_rows.specs.Words.{tokens, spaced, signed_word}
 use Rattle.dimacs_text.specs.Logs.{ended, lit_word, IsLitWithin, LitsWithin, IsId, AreIds, SpellsLine}
 use Rattle.dimacs_text.proofs.EntryLemmas.{ids_tell, lits_tell}
 use Rattle.report_text.specs.Spelling.{IsSingleSpaced}
 use Rattle.line_rows.specs.Words.{◌>>=?◌, number_in, behind, behind_of, made_of}
-use Rattle.line_rows.proofs.Exact.{IsExact, number_exact, exact-where, some_of, some_is, chosen, tested, same_bytes, behind_again, behind_takes}
+use Rattle.line_rows.proofs.Exact.{IsExact, number_exact, exact-where, some_of, some_is, chosen, same_bytes, behind_again, behind_takes}
 use Rattle.line_rows.proofs.LinedLaws.{IsExactOf}
 use Rattle.evidence_reader.specs.LogLines.{first_of, id_in, variable_in, lit_of, lit_in, items_in, at_end, deletion_in, addition_in, line_of_words, log_line_in}
 
@@ -225,6 +225,10 @@ log_line_exact variables small last = record {
 pub no_end_line : (variables last : ℕ) → log_line_in variables last (codes "end") ≡ None
 unfolding log_line_in number_in
 no_end_line variables last = refl
+
+pub ids_positive : (ids : List ℕ) → AreIds ids → ArePositive ids
+ids_positive [] h = tt
+ids_positive (n ∷ ids) h = (h.0.0, ids_positive ids h.1)
 
 -- what is read of a line is what a function finds that tells exactly
 pub log_line_found : (variables : ℕ) → variables < 10000000000 → (last : ℕ) (l : List ℕ) (e : Line) → IsSingleSpaced l → SpellsLine variables last e (tokens l) → log_line_in variables last l ≡ Some e

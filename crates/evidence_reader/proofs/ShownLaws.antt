@@ -1,25 +1,22 @@
 -- Evidence and what is left open are read exactly.
-use Rattle.std.proofs.Common.{◌≡◌, ℕ, ◌<◌, ◌≤◌, ◌^◌, Bool, true, false, not, List, [], ◌∷◌, ◌++◌, map, length, Option, Some, None, Result, Ok, Err, refl, sym, ap, subst, ◌∙◌, arith, append_assoc}
+use Rattle.std.proofs.Common.{◌≡◌, ℕ, ◌≤◌, ◌^◌, true, false, not, List, [], ◌∷◌, ◌++◌, map, length, Option, Some, None, Result, refl, sym, ap, subst, ◌∙◌, arith, append_assoc}
 use Rattle.std.specs.Prelude.{codes}
-use Rattle.std.specs.List.{AllByRecursion, All}
-use Rattle.std.specs.Str.{bytes_eq}
+use Rattle.std.specs.List.{AllByRecursion}
 use Rattle.std.proofs.lemmas.List.Elements.{recursion_from_All, All-from_recursion}
 use Rattle.cpog_base.specs.Names.{AreDistinct}
 use Rattle.cpog_base.specs.declared.limits.TheConstants.{VARIABLE_LIMIT}
 use Rattle.cpog_defs.specs.declared.types.Place.{Place}
 use Rattle.cpog_defs.specs.Graphs.{IsPlace}
-use Rattle.clause_arena.specs.Clauses.{Lit, Clause}
-use Rattle.text_rows.specs.Words.{tokens}
-use Rattle.proof_check.specs.Lines.{Line, Rise, ArePositive, LinesPositive}
-use Rattle.dimacs_text.specs.Logs.{LitsWithin, AreIds, SpellsLine, id_after}
+use Rattle.clause_arena.specs.Clauses.{Clause}
+use Rattle.proof_check.specs.Lines.{Line, Rise, LinesPositive}
+use Rattle.dimacs_text.specs.Logs.{LitsWithin, id_after}
 use Rattle.gate_template.specs.declared.types.Template.{Template}
 use Rattle.cnf_build.specs.Evidence.{EvidenceValue, OpenValue, IsNumbered, line_numbered, IsWrittenLog}
 use Rattle.netlist_verilog.specs.Module.{AreNames}
-use Rattle.report_text.specs.Report.{IsReportEvidence, IsReportOpen}
-use Rattle.report_text.specs.Rows.{place_row, template_text}
-use Rattle.report_text.specs.Spelling.{SpellsToEnd, SpellsHeaded, SpellsEvidence, SpellsOpen}
+use Rattle.report_text.specs.Rows.{place_row}
+use Rattle.report_text.specs.Spelling.{SpellsToEnd}
 use Rattle.line_rows.specs.Position.{Position}
-use Rattle.line_rows.specs.Reading.{row, exactly, then_of, view_of}
+use Rattle.line_rows.specs.Reading.{exactly, view_of}
 use Rattle.line_rows.specs.Spelling.{IsOf, ThenSpells}
 use Rattle.line_rows.specs.Lined.{SpellsLined}
 use Rattle.line_rows.proofs.Exact.{IsExact}
@@ -27,13 +24,13 @@ use Rattle.line_rows.proofs.RowLaws.{rows-none, exact-exactly}
 use Rattle.line_rows.proofs.SpelledLaws.{IsSpelled, spelled-rows, spelled-row, spelled-then, spelled-view}
 use Rattle.line_rows.proofs.LinedLaws.{IsExactOf, spelled-lined}
 use Rattle.evidence_reader.specs.LogLines.{log_line_in}
-use Rattle.evidence_reader.specs.Rows.{evidence_row, IsEvidenceHead, evidence_head_in, open_row, IsOpenHead, open_head_in, place_in, is_member_row, is_log_row}
-use Rattle.evidence_reader.specs.Shown.{SpellsReportEvidence, SpellsReportOpen, SpellsShown, second_of, log_rows_at, rows_before, log_at, after_open, open_at, same_state, places_at, with_none, with_places, after_evidence, shown_at}
+use Rattle.evidence_reader.specs.Rows.{evidence_row, IsEvidenceHead, open_row, IsOpenHead, open_head_in, place_in, is_member_row, is_log_row}
+use Rattle.evidence_reader.specs.Shown.{SpellsReportOpen, SpellsShown, second_of, log_rows_at, rows_before, log_at, after_open, open_at, same_state, places_at, with_none, with_places, after_evidence, shown_at}
 use Rattle.evidence_reader.specs.declared.heads.EvidenceHead.{EvidenceHead}
 use Rattle.evidence_reader.specs.declared.heads.EvidenceHead.TheVariants as evidence_heads
 use Rattle.evidence_reader.specs.declared.heads.OpenHead.{OpenHead}
 use Rattle.evidence_reader.specs.declared.heads.OpenHead.TheVariants as open_heads
-use Rattle.evidence_reader.proofs.LogLineLaws.{SpellsLogLine, log_line_exact, no_end_line, bytes_apart}
+use Rattle.evidence_reader.proofs.LogLineLaws.{SpellsLogLine, log_line_exact, no_end_line, bytes_apart, ids_positive}
 use Rattle.evidence_reader.proofs.HeadLaws.{evidence_head_exact, open_head_exact, place_exact, place_is_member, open_is_no_member}
 
 -- what is made of a value is spelled by the value's lines
@@ -79,10 +76,6 @@ pub log_spelled : IsSpelled (SpellsToEnd 0) log_at
 unfolding log_at
 log_spelled = spelled-view rows_before (SpellsToEnd 0) log_rows (λ log ls h. ((log, tt), from_to_end 0 log ls h, refl)) (λ x ls h. to_end 0 x.0 ls h)
 
-positive : (ids : List ℕ) → AreIds ids → ArePositive ids
-positive [] h = tt
-positive (n ∷ ids) h = (h.0.0, positive ids h.1)
-
 numbered_lits : (lits : Clause) → LitsWithin VARIABLE_LIMIT lits → AllByRecursion IsNumbered lits
 numbered_lits [] h = tt
 numbered_lits (l ∷ lits) h = ((omega (arith, h.0.0), h.0.1), numbered_lits lits h.1)
@@ -96,8 +89,8 @@ rises last (Line.Del ids ∷ log) (l ∷ ls) h = rises last log ls h.2
 are_positive : (last : ℕ) (log : List Line) (ls : List (List ℕ)) → SpellsToEnd last log ls → LinesPositive log
 are_positive last [] ls h = tt
 are_positive last (e ∷ log) [] h = absurd h
-are_positive last (Line.Add id lits hints ∷ log) (l ∷ ls) h = (positive hints h.1.3, are_positive id log ls h.2)
-are_positive last (Line.Del ids ∷ log) (l ∷ ls) h = (positive ids h.1.0, are_positive last log ls h.2)
+are_positive last (Line.Add id lits hints ∷ log) (l ∷ ls) h = (ids_positive hints h.1.3, are_positive id log ls h.2)
+are_positive last (Line.Del ids ∷ log) (l ∷ ls) h = (ids_positive ids h.1.0, are_positive last log ls h.2)
 
 numbered : (last : ℕ) (log : List Line) (ls : List (List ℕ)) → SpellsToEnd last log ls → AllByRecursion line_numbered log
 numbered last [] ls h = tt
@@ -212,18 +205,24 @@ from_shown names limit (EvidenceValue.Count places) o ls h =
     let rows = map (place_row names) places in
     let opening : List ℕ = open_row f.0.0 in
     let split : rows ++ h.1 ≡ (rows ++ opening ∷ []) ++ t.1 =
-        ap (λ (z : List (List ℕ)). rows ++ z) (head_and t.0 t.1 h.1 opening t.2.1 t.4) ∙ sym (append_assoc rows (opening ∷ []) t.1) in
-    let after : SpellsAfterOpen f.0.0 o t.1 = subst (λ (x : OpenValue). SpellsAfterOpen f.0.0 x t.1) f.2 t.3 in
-    ((evidence_heads.Count, (EvidenceValue.Count places, o)),
-      (codes "evidence count" ∷ [], rows ++ h.1, (tt, refl),
+    ap (λ (z : List (List ℕ)). rows ++ z) (head_and t.0 t.1 h.1 opening t.2.1 t.4) ∙ sym (append_assoc rows (opening ∷ []) t.1) in
+    let after : SpellsAfterOpen f.0.0 o t.1 = subst (λ (x : OpenValue). SpellsAfterOpen f.0.0 x t.1) f.2 t.3 in (
+      (evidence_heads.Count, (EvidenceValue.Count places, o)),
+      (
+        codes "evidence count" ∷ [],
+        rows ++ h.1,
+        (tt, refl),
         (((places, f.0.0), o), (rows ++ opening ∷ [], t.1, from_places names limit places f.0.0 (recursion_from_All (IsPlace (length names)) places h.2.0) t.2.0, after, split), refl),
-        front_line (codes "evidence count") h.0 h.1 ls rows h.2.1 h.4),
-      refl)
+        front_line (codes "evidence count") h.0 h.1 ls rows h.2.1 h.4,
+      ),
+      refl,
+    )
 from_shown names limit (EvidenceValue.Refutation kind gates log) o ls h =
-    let head = evidence_heads.Refutation kind gates in
-    ((head, (EvidenceValue.Refutation kind gates log, o)),
+    let head = evidence_heads.Refutation kind gates in (
+      (head, (EvidenceValue.Refutation kind gates log, o)),
       (evidence_row head ∷ [], h.2.1.0 ++ h.1, (h.2.0.0, refl), ((log, o), (h.2.1.0, h.1, h.2.1.2, h.3, refl), refl), front_line (evidence_row head) h.0 h.1 ls h.2.1.0 h.2.1.1 h.4),
-      refl)
+      refl,
+    )
 
 to_shown : (names : List (List ℕ)) (limit : ℕ) (h : EvidenceHead) (v : EvidenceValue × OpenValue) (ls : List (List ℕ)) → ThenSpells (SpellsEvidenceHead limit) (SpellsAfterEvidence names limit) (h, v) ls → SpellsShown names limit v ls
 to_shown names limit evidence_heads.Zero v ls h =
@@ -236,16 +235,24 @@ to_shown names limit evidence_heads.Count v ls h =
     let rows = map (place_row names) x.0.0 in
     let opening : List ℕ = open_row x.0.1 in
     let behind : h.1 ≡ rows ++ (opening ∷ t.1) = t.4 ∙ ap (λ (z : List (List ℕ)). z ++ t.1) p.2 ∙ append_assoc rows (opening ∷ []) t.1 in
-    subst (λ (y : EvidenceValue × OpenValue). SpellsShown names limit y ls) h.3.2
-    (codes "evidence count" ∷ rows, opening ∷ t.1, (All-from_recursion (IsPlace (length names)) x.0.0 p.0, refl), to_open limit x.0.1 x.1 (opening ∷ t.1) (opening ∷ [], t.1, (p.1, refl), t.3, refl),
-      head_and h.0 h.1 ls (codes "evidence count") h.2.1 h.4 ∙ ap (λ (z : List (List ℕ)). codes "evidence count" ∷ z) behind)
+    subst (λ (y : EvidenceValue × OpenValue). SpellsShown names limit y ls) h.3.2 (
+      codes "evidence count" ∷ rows,
+      opening ∷ t.1,
+      (All-from_recursion (IsPlace (length names)) x.0.0 p.0, refl),
+      to_open limit x.0.1 x.1 (opening ∷ t.1) (opening ∷ [], t.1, (p.1, refl), t.3, refl),
+      head_and h.0 h.1 ls (codes "evidence count") h.2.1 h.4 ∙ ap (λ (z : List (List ℕ)). codes "evidence count" ∷ z) behind,
+    )
 to_shown names limit (evidence_heads.Refutation kind gates) v ls h =
     let x = h.3.0 in
     let t = h.3.1 in
     let first : List ℕ = evidence_row (evidence_heads.Refutation kind gates) in
-    subst (λ (y : EvidenceValue × OpenValue). SpellsShown names limit y ls) h.3.2
-    (first ∷ t.0, t.1, ((h.2.0, written_log x.0 t.0 t.2), (t.0, refl, t.2)), t.3,
-      head_and h.0 h.1 ls first h.2.1 h.4 ∙ ap (λ (z : List (List ℕ)). first ∷ z) t.4)
+    subst (λ (y : EvidenceValue × OpenValue). SpellsShown names limit y ls) h.3.2 (
+      first ∷ t.0,
+      t.1,
+      ((h.2.0, written_log x.0 t.0 t.2), (t.0, refl, t.2)),
+      t.3,
+      head_and h.0 h.1 ls first h.2.1 h.4 ∙ ap (λ (z : List (List ℕ)). first ∷ z) t.4,
+    )
 
 -- evidence and what is left open are read where the lines spell them
 pub shown_spelled : (names : List (List ℕ)) (limit : ℕ) → AreNames names → AreDistinct names → limit ≤ 2 ^ 64 → IsSpelled (SpellsShown names limit) (shown_at names limit)

@@ -2,9 +2,9 @@
 use Rattle.std.specs.Prelude.{ℕ, ◌+◌, Bool, true, false, nat_lt, List, [], ◌∷◌, Option, Some, None, codes, if◌then◌else◌}
 use Rattle.std.specs.Fmt.{decimal}
 use Rattle.std.specs.Str.{bytes_eq}
-use Rattle.clause_arena.specs.Clauses.{Lit, Clause}
+use Rattle.clause_arena.specs.Clauses.{Lit}
 use Rattle.text_rows.specs.Words.{tokens, spaced}
-use Rattle.line_rows.specs.Words.{◌>>=?◌, number_in, behind, behind_of, made_of}
+use Rattle.line_rows.specs.Words.{◌>>=?◌, number_in, behind_of, made_of}
 use Rattle.proof_check.specs.Lines.{Line}
 
 -- the first of two answers that is one

@@ -1,15 +1,14 @@
 -- The lines of evidence and of what is left open, and how each is read.
-use Rattle.std.specs.Prelude.{◌≡◌, ℕ, ◌<◌, Bool, not, ◌==◌, List, [], ◌∷◌, ◌++◌, length, take, Option, Some, None, codes, if◌then◌else◌}
+use Rattle.std.specs.Prelude.{ℕ, ◌<◌, Bool, not, ◌==◌, List, ◌++◌, take, Option, Some, None, codes, if◌then◌else◌}
 use Rattle.std.specs.Str.{bytes_eq}
 use Rattle.cpog_base.specs.Names.{place_of}
-use Rattle.cpog_defs.specs.declared.types.OpId.{OpId}
 use Rattle.cpog_defs.specs.declared.types.Place.{Place}
 use Rattle.cpog_defs.specs.declared.types.Place.TheVariants.{Op, Arc}
 use Rattle.line_text.specs.Words.{is_free_name}
 use Rattle.gate_template.specs.declared.types.Template.{Template}
 use Rattle.gate_template.specs.declared.types.Template.TheVariants.{First, Second, Third}
 use Rattle.report_text.specs.Rows.{template_text}
-use Rattle.line_rows.specs.Words.{◌>>=?◌, number_in, behind_of, pair_of, made_of}
+use Rattle.line_rows.specs.Words.{number_in, behind_of, pair_of, made_of}
 use Rattle.evidence_reader.specs.LogLines.{first_of}
 use Rattle.evidence_reader.specs.declared.heads.EvidenceHead.{EvidenceHead}
 use Rattle.evidence_reader.specs.declared.heads.EvidenceHead.TheVariants as evidence_heads

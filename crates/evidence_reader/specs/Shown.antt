@@ -1,5 +1,5 @@
 -- The evidence of a report and what it leaves open: how lines spell both, and how both are read.
-use Rattle.std.specs.Prelude.{◌≡◌, ℕ, List, [], ◌∷◌, ◌++◌, length, Result, Ok, codes}
+use Rattle.std.specs.Prelude.{◌≡◌, ℕ, List, ◌++◌, length, Result, Ok, codes}
 use Rattle.cpog_base.specs.declared.limits.TheConstants.{VARIABLE_LIMIT}
 use Rattle.cpog_defs.specs.declared.types.Place.{Place}
 use Rattle.proof_check.specs.Lines.{Line}

@@ -6,6 +6,7 @@
 #![tactic(auto)]
 
 mod heads;
+mod log;
 mod places;
 mod shown;
 

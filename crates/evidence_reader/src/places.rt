@@ -82,3 +82,34 @@ fn is_member_row(line: &[u8]) -> bool
 {
     behind(line, b"open ").is_none()
 }
+
+/// The places that the next lines spell, up to the first line of what is left open, and what that line says.
+pub fn places_of(
+    alloc: Global,
+    cursor: &mut Cursor<'_>,
+    names: &Names,
+    limit: u32,
+) -> Result<(Vec<Place>, OpenHead), ReadError>
+    requires { length names.now ≤ 256 }
+    ensures { Gives (λ x. ((x.0.items, x.1), cursor.new)) result (places_at names.now limit cursor.old) }
+{
+    let mut places = Vec::new(alloc);
+    'lines: loop {
+        let line = match cursor.line() {
+            Ok(line) => line,
+            Err(fault) => return Err(fault),
+        };
+        if !is_member_row(line) {
+            let Some(head) = open_head_of(line, limit) else {
+                return Err(cursor.bad());
+            };
+            return Ok((places, head));
+        }
+        let Some(place) = place_of(line, names) else {
+            return Err(cursor.bad());
+        };
+        let Ok(()) = places.push(place) else {
+            return Err(ReadError::Memory);
+        };
+    }
+}
