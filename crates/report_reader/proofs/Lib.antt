@@ -1,0 +1,9 @@
+pub mod HeadLaws
+pub mod NameLaws
+pub mod NameSteps
+pub mod HeadRows
+pub mod Distinct
+pub mod ListLaws
+pub mod CodeLaws
+pub mod ReferenceLaws
+pub mod OperationLaws

@@ -1,0 +1,6 @@
+pub mod Reading
+pub mod Heads
+pub mod Lists
+pub mod Codes
+pub mod References
+pub mod Operations
