@@ -7,3 +7,4 @@ pub mod ListLaws
 pub mod CodeLaws
 pub mod ReferenceLaws
 pub mod OperationLaws
+pub mod ScenarioLaws

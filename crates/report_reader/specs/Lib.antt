@@ -4,3 +4,4 @@ pub mod Lists
 pub mod Codes
 pub mod References
 pub mod Operations
+pub mod Scenarios
