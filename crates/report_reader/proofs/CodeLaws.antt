@@ -143,7 +143,7 @@ given_exact n = record { again = given_again n; takes = given_takes n }
 
 -- ---- the one behind the other
 
-length-digits : (n w : ℕ) → length (digits_of n w) ≡ n
+pub length-digits : (n w : ℕ) → length (digits_of n w) ≡ n
 length-digits zero w = refl
 length-digits (suc n) w = ap length (digits_front n w (w % 2) (w / 2) (omega arith) (omega arith)) ∙ ap suc (length-digits n (w / 2))
 

@@ -8,3 +8,5 @@ pub mod CodeLaws
 pub mod ReferenceLaws
 pub mod OperationLaws
 pub mod ScenarioLaws
+pub mod FreshLaws
+pub mod BlockLaws

@@ -102,7 +102,7 @@ module _ (names : List (List ℕ)) (known : AreKnown names) where
   not_before_itself : (a : OpId × OpId) → IsArcBefore a a → ⊥
   not_before_itself a h = elim h [ inl lt ↦ absurd (omega (arith, lt)) | inr e ↦ absurd (let l = e.1 in omega (arith, l)) ]
 
-  reported : (ops : Set) (arcs : List (OpId × OpId)) → FitsHas names known ops → Fit ops (no_pair names known) arcs → IsReported (length names) (record { count = length names; ops = ops; arcs = arcs })
+  pub reported : (ops : Set) (arcs : List (OpId × OpId)) → FitsHas names known ops → Fit ops (no_pair names known) arcs → IsReported (length names) (record { count = length names; ops = ops; arcs = arcs })
   reported ops arcs below fits = record {
     count_is = refl;
     scenario = record {
@@ -114,10 +114,10 @@ module _ (names : List (List ℕ)) (known : AreKnown names) where
     ascending = ascend ops (no_pair names known) arcs fits;
   }
 
-  has_fits : (sc : Scenario) → IsReported (length names) sc → FitsHas names known sc.ops
+  pub has_fits : (sc : Scenario) → IsReported (length names) sc → FitsHas names known sc.ops
   has_fits sc h q has = let lt = h.scenario.below q has in omega (arith, lt, h.count_is)
 
-  fits_arcs : (sc : Scenario) → IsReported (length names) sc → Fit sc.ops (no_pair names known) sc.arcs
+  pub fits_arcs : (sc : Scenario) → IsReported (length names) sc → Fit sc.ops (no_pair names known) sc.arcs
   fits_arcs sc h = arcs_fit sc.ops (no_pair names known) sc.arcs h.ascending
       (λ k d lt. (h.scenario.first_kept (get_or sc.arcs k d).0.0 (get_or sc.arcs k d).1.0 (there k d lt), h.scenario.second_kept (get_or sc.arcs k d).0.0 (get_or sc.arcs k d).1.0 (there k d lt)))
       (λ d some. from_no_pair (get_or sc.arcs 0 d).0.0 (get_or sc.arcs 0 d).1.0)
