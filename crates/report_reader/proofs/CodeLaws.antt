@@ -12,7 +12,7 @@ use Rattle.cpog_base.specs.Pattern.{is_given}
 use Rattle.report_text.specs.Rows.{digit, digits_of, entry_digit, given_text}
 use Rattle.line_rows.specs.Words.{◌>>=?◌}
 use Rattle.line_rows.proofs.Exact.{IsExact, some_of, some_is, tested, chosen, both_true}
-use Rattle.report_reader.specs.Codes.{digit_in, digits_in, entry_in, entries_in, given_from, given_in, split_of}
+use Rattle.report_reader.specs.Codes.{digit_in, digits_in, entry_in, entries_in, given_from, pattern_in, given_in, split_of}
 use Rattle.report_reader.proofs.ListLaws.{if_true}
 
 -- ---- digits
@@ -120,6 +120,7 @@ abbrev shown : Bool → List Bit3 → List ℕ
 shown b es = cond b (32 ∷ map entry_digit es) []
 
 given_again : (n : ℕ) (es : List Bit3) → length es ≡ n → given_in n (given_text es) ≡ Some es
+unfolding pattern_in
 given_again n es len = step (list_any is_given es) refl
   where
     step : (b : Bool) → b ≡ list_any is_given es → given_in n (shown b es) ≡ Some es
@@ -129,6 +130,7 @@ given_again n es len = step (list_any is_given es) refl
         rw (entries_again es, same, ← is) refl
 
 given_takes : (n : ℕ) (bytes : List ℕ) (es : List Bit3) → given_in n bytes ≡ Some es → (length es ≡ n) × (bytes ≡ given_text es)
+unfolding pattern_in
 given_takes n [] es e = subst (λ (x : List Bit3). (length x ≡ n) × ([] ≡ given_text x)) (some_is _ es e) (so_many n, ap (λ (b : Bool). shown b (replicate n bits.Free)) (sym (none_open n)))
 given_takes n (b ∷ bs) es e =
     let t = if_true (eqb b 32) (entries_in bs >>=? given_from n) es e in

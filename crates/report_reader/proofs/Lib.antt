@@ -10,3 +10,4 @@ pub mod OperationLaws
 pub mod ScenarioLaws
 pub mod FreshLaws
 pub mod BlockLaws
+pub mod StepLaws

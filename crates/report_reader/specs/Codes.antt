@@ -29,10 +29,14 @@ entries_in (b ∷ bs) = entry_in b >>=? λ e. entries_in bs >>=? λ es. Some (e 
 abbrev pub given_from : ℕ → List Bit3 → Option (List Bit3)
 given_from bits es = if length es == bits && list_any is_given es then Some es else None
 
+-- an entry for each bit
+unfoldable pub pattern_in : ℕ → List ℕ → Option (List Bit3)
+pattern_in bits bytes = entries_in bytes >>=? given_from bits
+
 -- the entries behind a blank, or nothing where no bit is given
 abbrev pub given_in : ℕ → List ℕ → Option (List Bit3)
 given_in bits [] = Some (replicate bits Free)
-given_in bits (b ∷ bs) = if b == 32 then (entries_in bs >>=? given_from bits) else None
+given_in bits (b ∷ bs) = if b == 32 then pattern_in bits bs else None
 
 -- the first bytes, and those behind them
 abbrev pub split_of : {A B : Type 0} → ℕ → (List ℕ → Option A) → (List ℕ → Option B) → List ℕ → Option (A × B)

@@ -5,3 +5,4 @@ pub mod Codes
 pub mod References
 pub mod Operations
 pub mod Scenarios
+pub mod Columns

@@ -1,5 +1,5 @@
 -- How the operations and the arcs of a scenario are read.
-use Rattle.std.specs.Prelude.{ℕ, ◌+◌, ◌==◌, ◌&&◌, ◌||◌, nat_le, nat_lt, Bool, List, [], ◌∷◌, ◌++◌, length, take, drop, Option, Some, None, codes, if◌then◌else◌}
+use Rattle.std.specs.Prelude.{◌≡◌, ℕ, ◌+◌, ◌==◌, ◌&&◌, ◌||◌, nat_le, nat_lt, Bool, true, false, List, [], ◌∷◌, ◌++◌, length, take, drop, Option, Some, None, codes, if◌then◌else◌}
 use Rattle.std.specs.List.{position_or_len}
 use Rattle.std.specs.FinSet as set
 use Rattle.cpog_base.specs.Names.{place_of}
@@ -63,3 +63,16 @@ arcs_of w = Some w.arcs
 -- the arcs of a scenario with these operations
 unfoldable pub arcs_in : List (List ℕ) → Set → List ℕ → Option (List (OpId × OpId))
 arcs_in names ops = behind_of (codes "arcs") (λ bytes. words_after (take_arc names ops) (record { least = record { first = 0; second = 0 }; arcs = [] }) bytes >>=? arcs_of)
+
+-- an answer by a test, with what was put in
+abbrev pub Told : {A : Type 0} → Bool → Option A → A → Type 0
+Told true o x = o ≡ Some x
+Told false o x = o ≡ None
+
+-- the members that stand behind these
+abbrev pub behind_words : (Members → List ℕ → Option Members) → Members → List ℕ → Option Set
+behind_words take m bytes = words_after take m bytes >>=? members_of
+
+-- the arcs that stand behind these
+abbrev pub behind_arcs : List (List ℕ) → Set → Written → List ℕ → Option (List (OpId × OpId))
+behind_arcs names ops w bytes = words_after (take_arc names ops) w bytes >>=? arcs_of

@@ -106,3 +106,25 @@ pub record FitsBlock (bits : ℕ) (names : List (List ℕ)) (done : List (List �
 -- the lines of a scenario
 abbrev pub block_lines : ℕ → List (List ℕ) → Block → List (List ℕ)
 block_lines bits names b = scenario_row bits b.name b.code b.pattern ∷ has_row names b.scenario ∷ arcs_row names b.scenario ∷ []
+
+-- ---- as it is read
+
+-- the first line of a scenario behind others, with its name behind theirs
+unfoldable pub named_label : ℕ → List (List ℕ) → List ℕ → Option (List (List ℕ) × (ℕ × List Bit3))
+named_label bits done line = label_in bits done line >>=? λ x. Some (done ++ x.0 ∷ [], x.1)
+
+abbrev pub with_parts : ℕ → Columns → List (List ℕ) × (ℕ × List Bit3) → Set → List (OpId × OpId) → Columns
+with_parts count c label ops arcs = record { names = label.0; codes = c.codes ++ label.1.0 ∷ []; patterns = c.patterns ++ label.1.1 ∷ []; scenarios = c.scenarios ++ record { count = count; ops = ops; arcs = arcs } ∷ [] }
+
+-- one more scenario, whose first line is this one
+unfoldable pub add_at : ℕ → List (List ℕ) → Columns → List ℕ → Position → Result (Columns × Position) ℕ
+add_at bits names c line p =
+    read_or_fault (named_label bits c.names line) p >>= λ x. row (has_in names) x.1 >>= λ y. row (arcs_in names y.0) y.1 >>= λ z. Ok (with_parts (length names) c x.0 y.0 z.0, z.1)
+
+-- the other scenarios, behind those that were read, and the number of gates
+unfoldable pub others_at : ℕ → List (List ℕ) → Columns → ℕ → Position → Result ((Columns × ℕ) × Position) ℕ
+others_at bits names c n p = blocks_at bits names n c.names p >>= λ x. Ok (behind_columns c x.0, x.1)
+
+-- the number of gates, behind scenarios
+abbrev pub count_at : ℕ → Columns → List ℕ → Position → Result ((Columns × ℕ) × Position) ℕ
+count_at bits c line p = read_or_fault (gates_in bits line) p >>= λ x. Ok ((c, x.0), x.1)

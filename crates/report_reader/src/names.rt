@@ -9,7 +9,7 @@ use std::str;
 use line_rows::behind;
 
 /// A name as text.
-fn text_of(word: &[u8]) -> &str
+pub fn text_of(word: &[u8]) -> &str
     requires { words.is_free_name word.now ≡ true }
     ensures { result.now ≡ word.now }
 {
@@ -20,7 +20,7 @@ fn text_of(word: &[u8]) -> &str
 }
 
 /// Whether the word is a name that may come next; it then goes last.
-fn takes(names: &mut Names, word: &[u8], limit: u32) -> Result<bool, Memory>
+pub fn takes(names: &mut Names, word: &[u8], limit: u32) -> Result<bool, Memory>
     requires { limit ≤ 128 }
     ensures next { IfOk result (λ b. b ≡ is_next limit names.old word.now) }
     ensures names { IfOk result (λ b. b ≡ true → names.new ≡ names.old ++ word.now ∷ []) }
