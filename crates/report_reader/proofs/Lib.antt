@@ -11,3 +11,4 @@ pub mod ScenarioLaws
 pub mod FreshLaws
 pub mod BlockLaws
 pub mod StepLaws
+pub mod OthersLaws

@@ -92,9 +92,6 @@ behind_columns c x = (all_blocks c x.0, x.1)
 abbrev pub columns_from : Block × (List Block × ℕ) → Columns × ℕ
 columns_from x = (all_blocks no_columns (x.0 ∷ x.1.0), x.1.1)
 
-unfoldable pub columns_at : ℕ → List (List ℕ) → Position → Result ((Columns × ℕ) × Position) ℕ
-columns_at bits names = view_of columns_from (scenarios_at bits names)
-
 -- ---- what is read
 
 pub record FitsBlock (bits : ℕ) (names : List (List ℕ)) (done : List (List ℕ)) (b : Block) : Type 0 where
@@ -128,3 +125,11 @@ others_at bits names c n p = blocks_at bits names n c.names p >>= λ x. Ok (behi
 -- the number of gates, behind scenarios
 abbrev pub count_at : ℕ → Columns → List ℕ → Position → Result ((Columns × ℕ) × Position) ℕ
 count_at bits c line p = read_or_fault (gates_in bits line) p >>= λ x. Ok ((c, x.0), x.1)
+
+-- the number alone
+abbrev pub count_in : ℕ → List ℕ → Position → Result ℕ ℕ
+count_in bits line p = read_or_fault (gates_in bits line) p >>= λ x. Ok x.0
+
+-- the scenarios, and the number of gates
+unfoldable pub columns_at : ℕ → List (List ℕ) → Position → Result ((Columns × ℕ) × Position) ℕ
+columns_at bits names p = line_at p >>= λ l. add_at bits names no_columns l.0 l.1 >>= λ c. others_at bits names c.0 63 c.1

@@ -15,4 +15,4 @@ pub use names::{names_of, operations_of};
 pub use operations::{ends_of, operation_of, take_arc_list, take_has};
 pub use references::{condition_of, signal_of};
 pub use rows::{Head, head_of, read_head};
-pub use scenarios::Scenarios;
+pub use scenarios::{Scenarios, scenarios_of};

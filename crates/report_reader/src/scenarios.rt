@@ -1,8 +1,8 @@
 //! The scenarios of a report, up to the number of its gates.
 ghost use Rattle.std.specs.Prelude.{◌≡◌, true, None, Some, Ok, ◌<◌, ◌≤◌, ◌+◌, ◌^◌, length, IfSome, IfOk, MatchOption};
 ghost use Rattle.netlist_verilog.specs.Module.{AreNames};
-ghost use Rattle.line_rows.specs.Reading.{◌>>=◌, Gives, read_or_fault};
-ghost use Rattle.report_reader.specs.Scenarios.{named_label, is_label, gate_bound, gates_in, add_at, others_at, count_at, columns_at};
+ghost use Rattle.line_rows.specs.Reading.{Gives};
+ghost use Rattle.report_reader.specs.Scenarios.{named_label, is_label, gate_bound, gates_in, add_at, count_in, others_at, columns_at};
 ghost use Rattle.report_reader.specs.Columns.{columns_of};
 
 use crate::codes::code_of;
@@ -98,10 +98,59 @@ fn add_scenario(
 
 /// The number of gates, on this line.
 fn count_from(cursor: &Cursor<'_>, line: &[u8], bits: u8) -> Result<u32, ReadError>
-    ensures { Gives (λ n. n) result (read_or_fault (gates_in bits line.now) cursor.now >>= λ x. Ok x.0) }
+    ensures { Gives (λ n. n) result (count_in bits line.now cursor.now) }
 {
     match gate_count_of(line, bits) {
         Some(count) => Ok(count),
         None => Err(cursor.bad()),
     }
+}
+
+/// Puts the other scenarios behind those that were read, and answers the number of gates behind them.
+fn add_others(
+    alloc: Global,
+    cursor: &mut Cursor<'_>,
+    bits: u8,
+    names: &Names,
+    read: &mut Scenarios,
+) -> Result<u32, ReadError>
+    requires bits { bits ≤ 8 }
+    requires known { AreNames names.now }
+    requires few { length names.now ≤ 64 }
+    ensures { Gives (λ n. ((columns_of read.new, n), cursor.new)) result (others_at bits names.now (columns_of read.old) 63 cursor.old) }
+{
+    for index in 0..63u8 {
+        let line = cursor.line()?;
+        if !is_label(line) {
+            return count_from(cursor, line, bits);
+        }
+        add_scenario(alloc, cursor, line, bits, names, read)?;
+    }
+    let line = cursor.line()?;
+    count_from(cursor, line, bits)
+}
+
+/// The scenarios, and the number of gates.
+#[tactic(auto, unfolding(crate::specs::Scenarios::columns_at))]
+pub fn scenarios_of(
+    alloc: Global,
+    cursor: &mut Cursor<'_>,
+    bits: u8,
+    names: &Names,
+) -> Result<(Scenarios, u32), ReadError>
+    requires bits { bits ≤ 8 }
+    requires known { AreNames names.now }
+    requires few { length names.now ≤ 64 }
+    ensures { Gives (λ x. ((columns_of x.0, x.1), cursor.new)) result (columns_at bits names.now cursor.old) }
+{
+    let mut read = Scenarios {
+        names: Names::new(alloc),
+        codes: Vec::new(alloc),
+        given: Vec::new(alloc),
+        scenarios: Vec::new(alloc),
+    };
+    let line = cursor.line()?;
+    add_scenario(alloc, cursor, line, bits, names, &mut read)?;
+    let count = add_others(alloc, cursor, bits, names, &mut read)?;
+    Ok((read, count))
 }
