@@ -12,3 +12,4 @@ pub mod FreshLaws
 pub mod BlockLaws
 pub mod StepLaws
 pub mod OthersLaws
+pub mod GateLaws

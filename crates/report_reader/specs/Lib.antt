@@ -6,3 +6,4 @@ pub mod References
 pub mod Operations
 pub mod Scenarios
 pub mod Columns
+pub mod Gates

@@ -2,6 +2,7 @@
 #![tactic(auto)]
 
 mod codes;
+mod gates;
 mod head;
 mod names;
 mod operations;
@@ -10,6 +11,7 @@ mod rows;
 mod scenarios;
 
 pub use codes::{code_of, given_of, word_of};
+pub use gates::{ArcLine, bound_of};
 pub use head::{bits_of, budget_of};
 pub use names::{names_of, operations_of};
 pub use operations::{ends_of, operation_of, take_arc_list, take_has};
