@@ -15,7 +15,8 @@ mod writing;
 
 pub use cnf::{CnfFault, read_cnf, read_joined};
 pub use laws::bad_lines_are_told;
-pub use log::{LogFault, read_log};
+pub use line_lits::LineLits;
+pub use log::{Entry, LogFault, read_entry, read_log};
 pub use writing::{append_log, write_cnf, write_log};
 
 #[cfg(test)]

@@ -27,7 +27,7 @@ pub enum LogFault {
 
 /// What a line of a log is, beside its literals and its hints or deleted ids, which stay in buffers.
 #[derive(Clone, Copy)]
-enum Entry {
+pub enum Entry {
     /// An addition with this id.
     Add(u32),
     /// A deletion.
@@ -83,7 +83,7 @@ fn read_lits<'a>(
 }
 
 /// What a line of a log is, behind additions of which the last has this id.
-fn read_entry(
+pub fn read_entry(
     line: &[u8],
     variables: u64,
     last: u64,

@@ -1,0 +1,4 @@
+pub mod LogLines
+pub mod Rows
+pub mod Shown
+pub mod Spacing
