@@ -1,0 +1,19 @@
+//! The module of a controller is read from its text.
+//!
+//! Below it stand `line_rows`, whose rows are read one after another, and `netlist_verilog`, which says what a module
+//! and its lines are. `read_module` is promised to answer a module exactly for the lines of one, and the number of the
+//! first bad line of every other text. `module_rows` reads a module at any place of a longer text, and the law
+//! `modules_are_rows` says of this that it is exact.
+#![tactic(auto)]
+
+mod gate;
+mod laws;
+mod module;
+mod rows;
+mod words;
+
+pub use gate::{Join, Tail, function_of, gate_of};
+pub use laws::modules_are_rows;
+pub use module::{ModuleFault, module_rows, read_module};
+pub use rows::{conditions_of, gates_of};
+pub use words::{condition_of, reference_of, signal_of};
