@@ -14,9 +14,9 @@ use Rattle.netlist_verilog.specs.Wires.{signal_text, name_of}
 use Rattle.report_text.specs.Rows.{digits_of, gate_row, gate_lines, op_row, ref_text}
 use Rattle.line_rows.specs.Words.{number_in, behind_of, pair_of, made_of}
 use Rattle.line_rows.specs.Position.{Position}
-use Rattle.line_rows.specs.Reading.{◌>>=◌, row, view_of, many_of, lines_many}
+use Rattle.line_rows.specs.Reading.{◌>>=◌, line_at, read_or_fault, row, view_of, many_of, lines_many}
 use Rattle.line_rows.proofs.Exact.{IsExact, IsWord, exact-behind, exact-pair, exact-made, number_exact, decimal_word, tested, both_true}
-use Rattle.line_rows.proofs.RowLaws.{IsRows, rows-row, rows-view, rows-many, FitsMany}
+use Rattle.line_rows.proofs.RowLaws.{IsRows, rows-row, rows-view, rows-many, FitsMany, bind_ok, ok_is}
 use Rattle.report_reader.specs.Codes.{digits_in}
 use Rattle.report_reader.specs.References.{signal_in, condition_in}
 use Rattle.report_reader.specs.Gates.{gate_from, gate_in, gates_at, op_in, ops_at}
@@ -168,3 +168,14 @@ ops_rows inputs gates names small =
     (rows-many (λ i _. i + 1) (λ _ _. Unit {0}) (λ n v h. rows-row (op_exact inputs gates (name_of names v) small) (Const false, tt)) (λ n v r h fits. tt) (length names) 0 tt)
     (λ refs h. (subst (λ (n : ℕ). FitsMany (OverAll (inputs + gates)) (λ i _. i + 1) n 0 refs) h.1 (refs_fit (inputs + gates) 0 refs h.0), refs_written inputs names refs))
     (λ refs h. let a = are_refs (inputs + gates) (length names) 0 refs h in ((a.0, a.1), refs_written inputs names refs))
+
+-- ---- what a row gives
+
+row_is : {A : Type 0} (o : Option A) (q : Position) (x : A × Position) → read_or_fault o q ≡ Ok x → o ≡ Some x.0
+row_is {A = A} (Some v) q x e = ap (λ (y : A × Position). Some y.0) (ok_is (v, q) x e)
+row_is None q x e = absurd cc
+
+pub row_spells : {A : Type 0} {F : A → Type 0} {t : A → List ℕ} (read : List ℕ → Option A) → IsExact F t read → (p : Position) (x : A × Position) → row read p ≡ Ok x → F x.0
+row_spells read exact p x e =
+    let l = bind_ok (line_at p) (λ l. read_or_fault (read l.0) l.1) x e in
+    (exact.takes l.0.0 x.0 (row_is (read l.0.0) l.0.1 x l.2)).0

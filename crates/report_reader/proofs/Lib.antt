@@ -13,3 +13,4 @@ pub mod BlockLaws
 pub mod StepLaws
 pub mod OthersLaws
 pub mod GateLaws
+pub mod ArcLaws

@@ -7,3 +7,4 @@ pub mod Operations
 pub mod Scenarios
 pub mod Columns
 pub mod Gates
+pub mod Entries

@@ -136,12 +136,12 @@ pub fn ends_of(names: &Names, word: &[u8]) -> Option<(u32, u32)>
 
 /// The least pair of operations that may come next.
 #[derive(Clone, Copy)]
-struct Least {
-    first: u8,
-    second: u8,
+pub struct Least {
+    pub first: u8,
+    pub second: u8,
 }
 
-fn may_come(least: Least, u: u8, v: u8) -> bool
+pub fn may_come(least: Least, u: u8, v: u8) -> bool
     ensures { result ≡ is_from (record { first = least.first; second = least.second }) u v }
 {
     least.first < u || (least.first == u && least.second <= v)
