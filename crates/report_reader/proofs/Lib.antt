@@ -14,3 +14,5 @@ pub mod StepLaws
 pub mod OthersLaws
 pub mod GateLaws
 pub mod ArcLaws
+pub mod ArcSteps
+pub mod EntryLaws

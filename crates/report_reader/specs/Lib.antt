@@ -8,3 +8,4 @@ pub mod Scenarios
 pub mod Columns
 pub mod Gates
 pub mod Entries
+pub mod Reports

@@ -169,7 +169,8 @@ fn entry_of(
     requires known { AreNames names.now }
     requires few { length names.now ≤ 64 }
     requires small { inputs + gates < 2 ^ 32 }
-    ensures { result ≡ entry_in inputs gates names.now (record { first = least.first; second = least.second }) line.now }
+    ensures value { result ≡ entry_in inputs gates names.now (record { first = least.first; second = least.second }) line.now }
+    ensures below { IfSome result (λ e. e.second < 64) }
 {
     let rest = behind(line, b"arc ")?;
     let (word, rest) = word_at(rest)?;
@@ -181,7 +182,8 @@ fn entry_of(
 }
 
 fn entry_from(least: Least, first: u8, second: u8, condition: Ref) -> Option<ArcLine>
-    ensures { result ≡ entry_from (record { first = least.first; second = least.second }) (first, (second, condition)) }
+    ensures value { result ≡ entry_from (record { first = least.first; second = least.second }) (first, (second, condition)) }
+    ensures second { IfSome result (λ e. e.second ≡ second) }
 {
     if may_come(least, first, second) && first != second && !is_zero(condition) {
         Some(ArcLine {
@@ -212,8 +214,11 @@ pub fn arcs_of(
         first: 0,
         second: 0,
     };
-    for _turn in 0..u64::MAX {
-        let line = cursor.line()?;
+    'lines: loop {
+        let line = match cursor.line() {
+            Ok(line) => line,
+            Err(fault) => return Err(fault),
+        };
         if !is_arc(line) {
             let Some(bound) = bound_of(line) else {
                 return Err(cursor.bad());
@@ -227,7 +232,8 @@ pub fn arcs_of(
             first: arc.first,
             second: arc.second + 1,
         };
-        arcs.push(arc)?;
+        let Ok(()) = arcs.push(arc) else {
+            return Err(ReadError::Memory);
+        };
     }
-    Err(ReadError::Memory)
 }
