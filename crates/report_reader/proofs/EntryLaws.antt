@@ -2,8 +2,8 @@
 use Rattle.std.proofs.Common.{lit<, ◌≡◌, ◌≢◌, ℕ, zero, suc, ◌<◌, ◌≤◌, ◌+◌, ◌-◌, Bool, true, false, cond, ltb, leb, eqb, ◌&&◌, ◌||◌, not, List, [], ◌∷◌, ◌++◌, length, map, get_or, refl, sym, ap, ap₂, subst, ◌∙◌, arith, append_assoc, length-append, inl, inr, ◌⊎◌}
 use Rattle.std.proofs.lemmas.Bool.{cases_Bool, cases_eq, cases_lt, both_ways, eqb-true, eq-eqb, ne_eqb}
 use Rattle.std.proofs.lemmas.Bool.Decides.{nat_tests}
-use Rattle.std.proofs.lemmas.List.{append-nil, get_or_append_left, map-append}
-use Rattle.std.proofs.Math.Seq.{get_or-append_seam, get_or_past}
+use Rattle.std.proofs.lemmas.List.{append-nil, get_or_append_left, get_or_past, map-append}
+use Rattle.std.proofs.Math.Seq.{get_or-append_seam}
 use Rattle.cpog_defs.specs.declared.types.Ref.{Ref}
 use Rattle.cpog_defs.specs.declared.types.Ref.TheVariants.{Const, Signal}
 use Rattle.cpog_defs.specs.declared.types.Place.{Place}
@@ -56,14 +56,11 @@ look_past signals count p (e ∷ es) u v h out =
 
 look_over : (signals count : ℕ) (p : Pair) (es : List ArcLine) (u v : ℕ) → FitEntries signals count p es → IsRefOver signals (look es u v)
 look_over signals count p [] u v h = tt
-look_over signals count p (e ∷ es) u v h = step (eqb e.first u && eqb e.second v)
+look_over signals count p (e ∷ es) u v h = step (eqb e.first u && eqb e.second v) (look_over signals count (after_entry p e) es u v h.1)
   where
-    rest : IsRefOver signals (look es u v)
-    rest = look_over signals count (after_entry p e) es u v h.1
-
-    step : (b : Bool) → IsRefOver signals (cond b e.condition (look es u v))
-    step true = h.0.over
-    step false = rest
+    step : (b : Bool) → IsRefOver signals (look es u v) → IsRefOver signals (cond b e.condition (look es u v))
+    step true rest = h.0.over
+    step false rest = rest
 
 look_diagonal : (signals count : ℕ) (p : Pair) (es : List ArcLine) (u : ℕ) → FitEntries signals count p es → look es u u ≡ Const false
 look_diagonal signals count p [] u h = refl
@@ -95,6 +92,7 @@ table_diagonal signals n ops es u h = elim (cases_lt u n) [
 ]
 
 pub graph_fits : (signals n : ℕ) (ops : List Ref) (es : List ArcLine) → length ops ≡ n → ((v : ℕ) → v < n → IsRefOver signals (get_or ops v (Const false))) → FitEntries signals n first_pair es → IsGraph n signals (graph_from n ops es)
+unfolding graph_from
 graph_fits signals n ops es len over h = record {
   ops = ops_are;
   arcs = arcs_are;
@@ -104,19 +102,15 @@ graph_fits signals n ops es len over h = record {
 }
   where
     ops_are : length (graph_from n ops es).ops ≡ n
-    unfolding graph_from
     ops_are = len
 
     arcs_are : length (graph_from n ops es).arcs ≡ n
-    unfolding graph_from
     arcs_are = length-ones (λ u. each_below (λ v. look es u v ∷ []) n) n
 
     rows_are : (u : ℕ) → u < n → length (get_or (graph_from n ops es).arcs u []) ≡ n
-    unfolding graph_from
     rows_are u lt = ap length (row_at n es u lt) ∙ length-ones (look es u) n
 
     ops_over : (v : ℕ) → v < n → IsRefOver signals (op_ref (graph_from n ops es) v)
-    unfolding graph_from
     ops_over v lt = over v lt
 
     each : (p : Place) → IsPlace n p → IsRefOver signals (ref_of (graph_from n ops es) p)
@@ -175,9 +169,6 @@ not_later u v = grind (arith, nat_tests)
 other_entry : (u v x y : ℕ) → (ltb u x || (eqb u x && leb (v + 1) y)) ≡ true → (eqb u x && eqb v y) ≡ false
 other_entry u v x y h = grind (arith, nat_tests)
 
-pair : ℕ → ℕ → Pair
-pair u v = record { first = u; second = v }
-
 abbrev at_pair : ℕ → ℕ → Pair
 at_pair u v = record { first = u; second = v }
 
@@ -227,3 +218,68 @@ one_row signals n f u k lu next (suc m) v size es h agree =
 all_rows : (signals n : ℕ) (f : ℕ → ℕ → Ref) (k u : ℕ) → u + k ≡ n → (es : List ArcLine) → FitEntries signals n (at_pair u 0) es → Agrees f (at_pair u 0) n es → all_entries n f u k ≡ es
 all_rows signals n f zero u size es h agree = sym (no_entry signals n u es (omega (arith, size)) h)
 all_rows signals n f (suc k) u size es h agree = one_row signals n f u k (omega (arith, size)) (λ es h agree. all_rows signals n f k (u + 1) (omega (arith, size)) es h agree) n 0 (omega arith) es h agree
+
+-- ---- a graph's conditions, and their lines
+
+pub table_entries : (signals n : ℕ) (ops : List Ref) (es : List ArcLine) → FitEntries signals n first_pair es → all_entries n (arc_ref (graph_from n ops es)) 0 n ≡ es
+table_entries signals n ops es h = all_rows signals n (arc_ref (graph_from n ops es)) n 0 (omega arith) es h (λ u v lu lv g. table_at n ops es u v lu lv)
+
+one_line : (inputs : ℕ) (names : List (List ℕ)) (u v : ℕ) (r : Ref) → line_unless_zero (arc_row inputs (name_of names u) (name_of names v) r) r ≡ map (entry_row inputs names) (entry_unless_zero u v r)
+one_line inputs names u v (Const false) = refl
+one_line inputs names u v (Const true) = refl
+one_line inputs names u v (Signal n negated) = refl
+
+map_forward : {X Y : Type 0} (g : X → Y) (f : ℕ → List X) (n v : ℕ) → map g (forward f v n) ≡ forward (λ k. map g (f k)) v n
+map_forward g f zero v = refl
+map_forward {Y = Y} g f (suc n) v = map-append g (f v) (forward f (v + 1) n) ∙ ap (λ (ys : List Y). map g (f v) ++ ys) (map_forward g f n (v + 1))
+
+same_forward : {A : Type 0} (f g : ℕ → List A) → ((k : ℕ) → f k ≡ g k) → (n v : ℕ) → forward f v n ≡ forward g v n
+same_forward f g same zero v = refl
+same_forward {A = A} f g same (suc n) v = ap₂ (λ (x y : List A). x ++ y) (same v) (same_forward f g same n (v + 1))
+
+pub arcs_written : (inputs : ℕ) (names : List (List ℕ)) (graph : ConditionalGraph) → arc_lines inputs names graph ≡ map (entry_row inputs names) (all_entries (length names) (arc_ref graph) 0 (length names))
+arcs_written inputs names graph =
+    below_forward (λ u. arc_lines_from inputs names graph u (length names)) (length names)
+    ∙ same_forward (λ u. arc_lines_from inputs names graph u (length names)) (λ u. map (entry_row inputs names) (row_entries (arc_ref graph) u 0 (length names))) row (length names) 0
+    ∙ sym (map_forward (entry_row inputs names) (λ u. row_entries (arc_ref graph) u 0 (length names)) (length names) 0)
+  where
+    row : (u : ℕ) → arc_lines_from inputs names graph u (length names) ≡ map (entry_row inputs names) (row_entries (arc_ref graph) u 0 (length names))
+    row u =
+        below_forward (λ v. line_unless_zero (arc_row inputs (name_of names u) (name_of names v) (arc_ref graph u v)) (arc_ref graph u v)) (length names)
+        ∙ same_forward (λ v. line_unless_zero (arc_row inputs (name_of names u) (name_of names v) (arc_ref graph u v)) (arc_ref graph u v)) (λ v. map (entry_row inputs names) (entry_unless_zero u v (arc_ref graph u v))) (λ v. one_line inputs names u v (arc_ref graph u v)) (length names) 0
+        ∙ sym (map_forward (entry_row inputs names) (λ v. entry_unless_zero u v (arc_ref graph u v)) (length names) 0)
+
+-- ---- the conditions of a graph come one after another
+
+wider_first : (signals n : ℕ) (p q : Pair) (es : List ArcLine) → ((x y : ℕ) → is_from q x y ≡ true → is_from p x y ≡ true) → FitEntries signals n q es → FitEntries signals n p es
+wider_first signals n p q [] wide h = tt
+wider_first signals n p q (e ∷ es) wide h = (record { next = wide e.first e.second h.0.next; first = h.0.first; second = h.0.second; differ = h.0.differ; counts = h.0.counts; over = h.0.over }, h.1)
+
+from_next_row : (u v x y : ℕ) → (ltb (u + 1) x || (eqb (u + 1) x && leb 0 y)) ≡ true → (ltb u x || (eqb u x && leb v y)) ≡ true
+from_next_row u v x y h = grind (arith, nat_tests)
+
+module _ (signals n : ℕ) (graph : ConditionalGraph) (is : IsGraph n signals graph) where
+  abbrev f : ℕ → ℕ → Ref
+  f = arc_ref graph
+
+  not_diagonal : (u v : ℕ) → is_zero (f u v) ≡ false → u ≢ v
+  not_diagonal u v h e = absurd (both_ways (is_zero (f u v)) h (ap is_zero (ap (f u) (sym e) ∙ is.diagonal u)))
+
+  rows_fit : (u : ℕ) → u < n → (rest : List ArcLine) → FitEntries signals n (at_pair (u + 1) 0) rest → (m v : ℕ) → v + m ≡ n → FitEntries signals n (at_pair u v) (row_entries f u v m ++ rest)
+  rows_fit u lu rest h zero v size = wider_first signals n (at_pair u v) (at_pair (u + 1) 0) rest (from_next_row u v) h
+  rows_fit u lu rest h (suc m) v size =
+      subst (FitEntries signals n (at_pair u v)) (sym (append_assoc (entry_unless_zero u v (f u v)) (row_entries f u (v + 1) m) rest))
+      (step (is_zero (f u v)) refl (rows_fit u lu rest h m (v + 1) (omega (arith, size))))
+    where
+      step : (b : Bool) → is_zero (f u v) ≡ b → FitEntries signals n (at_pair u (v + 1)) (row_entries f u (v + 1) m ++ rest) → FitEntries signals n (at_pair u v) (cond b [] ((record { first = u; second = v; condition = f u v }) ∷ []) ++ (row_entries f u (v + 1) m ++ rest))
+      step true zero_is more = wider_first signals n (at_pair u v) (at_pair u (v + 1)) (row_entries f u (v + 1) m ++ rest) (weaker u v) more
+      step false some more =
+          let differ : u ≢ v = not_diagonal u v some in
+          (record { next = self_from u v; first = lu; second = omega (arith, size); differ = differ; counts = some; over = is.over (Arc (record { 0 = u }) (record { 0 = v })) (lu, omega (arith, size), differ) }, more)
+
+  graph_rows_fit : (k u : ℕ) → u + k ≡ n → FitEntries signals n (at_pair u 0) (all_entries n f u k)
+  graph_rows_fit zero u size = tt
+  graph_rows_fit (suc k) u size = rows_fit u (omega (arith, size)) (all_entries n f (u + 1) k) (graph_rows_fit k (u + 1) (omega (arith, size))) n 0 (omega arith)
+
+  pub graph_entries_fit : FitEntries signals n first_pair (all_entries n f 0 n)
+  graph_entries_fit = graph_rows_fit n 0 (omega arith)
