@@ -12,7 +12,7 @@ use Rattle.std.proofs.lemmas.Slice.Eq.{bytes_eq-Decides}
 use Rattle.command_words.specs.declared.words.Command.{Command}
 use Rattle.command_words.specs.declared.words.Command.TheVariants as command
 use Rattle.command_words.specs.declared.words.SaidOptions.{SaidOptions}
-use Rattle.command_words.specs.Words.{is_number_within, number_within, bits_in, budget_in, bits_alone, budget_alone, exact_alone, either_said, once_said, all_said, joined, unsaid, option_in, before, is_exact, options_in, without, without_exact, synth_of, synth_in, normal_in, lrat_in, cnf_over, cnf_of, cnf_in, solve_of, solve_in, command_of}
+use Rattle.command_words.specs.Words.{is_number_within, number_within, bits_in, budget_in, bits_alone, budget_alone, exact_alone, either_said, once_said, all_said, joined, unsaid, option_in, before, is_exact, options_in, without, without_exact, synth_of, synth_in, alone, cnf_over, cnf_of, cnf_in, solve_of, solve_in, command_of}
 use Rattle.command_words.specs.Ranges.{MayBeSaid, MayBeNamed}
 
 -- ---- numbers
@@ -277,13 +277,9 @@ module _ (words : List (List ℕ)) (c : Command) where
           subst MayBeNamed (same_Some (command.Solve (unwrap_or said.budget 2000000)) c (unsaid_is said.bits _ c (inexact_is said.exact _ c f)))
           (settled said.budget (options_may words said p).1)
 
-normal_may : (words : List (List ℕ)) (c : Command) → normal_in words ≡ Some c → MayBeNamed c
-normal_may [] c f = subst MayBeNamed (same_Some command.Normal c f) tt
-normal_may (word ∷ words) c f = absurd (none-some c f)
-
-lrat_may : (words : List (List ℕ)) (c : Command) → lrat_in words ≡ Some c → MayBeNamed c
-lrat_may [] c f = subst MayBeNamed (same_Some command.Lrat c f) tt
-lrat_may (word ∷ words) c f = absurd (none-some c f)
+alone_may : (command : Command) → MayBeNamed command → (words : List (List ℕ)) (c : Command) → alone command words ≡ Some c → MayBeNamed c
+alone_may command may [] c f = subst MayBeNamed (same_Some command c f) may
+alone_may command may (word ∷ words) c f = absurd (none-some c f)
 
 over_may : (gates : ℕ) (bits : Option ℕ) (c : Command) → gates ≤ 4096 → MayBeSaid 1 bits → cnf_over gates bits ≡ Some c → MayBeNamed c
 over_may gates None c few may f = subst MayBeNamed (same_Some (command.Cnf (record { gates = gates; bits = None })) c f) (record { few_gates = few; bits = tt })
@@ -307,13 +303,19 @@ cnf_may (word ∷ words) c f = over (number_within 0 4096 word) refl f
 -- what words name may be named
 pub may_be_named : (words : List (List ℕ)) (c : Command) → command_of words ≡ Some c → MayBeNamed c
 may_be_named [] c e = absurd (none-some c e)
-may_be_named (word ∷ words) c e = named _ _ _ _ _ e
+may_be_named (word ∷ words) c e = named _ _ _ _ _ _ _ e
   where
-    named : (synth normal cnf lrat solve : Bool) →
-        (if synth then synth_in words else (if normal then normal_in words else (if cnf then cnf_in words else (if lrat then lrat_in words else (if solve then solve_in words else None))))) ≡ Some c → MayBeNamed c
-    named true normal cnf lrat solve f = synth_may words c f
-    named false true cnf lrat solve f = normal_may words c f
-    named false false true lrat solve f = cnf_may words c f
-    named false false false true solve f = lrat_may words c f
-    named false false false false true f = solve_may words c f
-    named false false false false false f = absurd (none-some c f)
+    read : (check verilog : Bool) → (if check then alone command.Check words else (if verilog then alone command.Verilog words else None)) ≡ Some c → MayBeNamed c
+    read true verilog f = alone_may command.Check tt words c f
+    read false true f = alone_may command.Verilog tt words c f
+    read false false f = absurd (none-some c f)
+
+    named : (synth normal cnf lrat solve check verilog : Bool) →
+        (if synth then synth_in words else (if normal then alone command.Normal words else (if cnf then cnf_in words else (if lrat then alone command.Lrat words
+        else (if solve then solve_in words else (if check then alone command.Check words else (if verilog then alone command.Verilog words else None))))))) ≡ Some c → MayBeNamed c
+    named true normal cnf lrat solve check verilog f = synth_may words c f
+    named false true cnf lrat solve check verilog f = alone_may command.Normal tt words c f
+    named false false true lrat solve check verilog f = cnf_may words c f
+    named false false false true solve check verilog f = alone_may command.Lrat tt words c f
+    named false false false false true check verilog f = solve_may words c f
+    named false false false false false check verilog f = read check verilog f

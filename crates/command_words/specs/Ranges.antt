@@ -30,3 +30,5 @@ MayBeNamed command.Normal = Unit {0}
 MayBeNamed (command.Cnf options) = MayBeFormula options
 MayBeNamed command.Lrat = Unit {0}
 MayBeNamed (command.Solve budget) = (1 ≤ budget) × (budget ≤ BUDGET_LIMIT)
+MayBeNamed command.Check = Unit {0}
+MayBeNamed command.Verilog = Unit {0}

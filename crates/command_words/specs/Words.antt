@@ -104,15 +104,10 @@ synth_of said = command.Synth (record { bits = said.bits; budget = unwrap_or sai
 abbrev pub synth_in : List (List ℕ) → Option Command
 synth_in words = option_map synth_of (options_in words)
 
--- `normal`, where no words stand behind it
-abbrev pub normal_in : List (List ℕ) → Option Command
-normal_in [] = Some command.Normal
-normal_in words = None
-
--- `lrat`, where no words stand behind it
-abbrev pub lrat_in : List (List ℕ) → Option Command
-lrat_in [] = Some command.Lrat
-lrat_in words = None
+-- a command, where no words stand behind its own
+abbrev pub alone : Command → List (List ℕ) → Option Command
+alone c [] = Some c
+alone c words = None
 
 -- `cnf` over so many gates, with two bits at least where they are said
 abbrev pub cnf_over : ℕ → Option ℕ → Option Command
@@ -142,7 +137,9 @@ abbrev pub command_of : List (List ℕ) → Option Command
 command_of [] = None
 command_of (word ∷ words) =
     if bytes_eq word (codes "synth") then synth_in words
-    else (if bytes_eq word (codes "normal") then normal_in words
+    else (if bytes_eq word (codes "normal") then alone command.Normal words
     else (if bytes_eq word (codes "cnf") then cnf_in words
-    else (if bytes_eq word (codes "lrat") then lrat_in words
-    else (if bytes_eq word (codes "solve") then solve_in words else None))))
+    else (if bytes_eq word (codes "lrat") then alone command.Lrat words
+    else (if bytes_eq word (codes "solve") then solve_in words
+    else (if bytes_eq word (codes "check") then alone command.Check words
+    else (if bytes_eq word (codes "verilog") then alone command.Verilog words else None))))))

@@ -1,8 +1,8 @@
 //! The words of the command line. A command stands first, its number behind it, and then its options in any order, each at
 //! most once. The word `--exact` is an option, and each other option is a name with its value as the next word.
-ghost use Rattle.std.specs.Prelude.{◌≡◌, ◌<◌, ◌≤◌, map, option_and_then};
+ghost use Rattle.std.specs.Prelude.{◌≡◌, ◌<◌, ◌≤◌, ◌∷◌, map, option_and_then};
 ghost use Rattle.std.specs.String.{string_bytes};
-ghost use Rattle.command_words.specs.Words.{number_within, bits_in, budget_in, option_in, joined, options_in, synth_of, cnf_of, solve_of, command_of};
+ghost use Rattle.command_words.specs.Words.{number_within, bits_in, budget_in, option_in, joined, options_in, synth_of, cnf_of, solve_of, alone, cnf_in, command_of};
 
 use cpog_base::{BIT_LIMIT, BUDGET_LIMIT, DEFAULT_BUDGET};
 use text_rows::whole_number;
@@ -59,6 +59,10 @@ pub enum Command {
     Lrat,
     /// Decide the formula that is read, by a search that may write so many numbers to a log.
     Solve { budget: u32 },
+    /// Judge whether the report that is read is good.
+    Check,
+    /// Print the module of the report that is read, where that is good.
+    Verilog,
 }
 
 /// The number that a word says in decimal digits, without a sign and without a leading zero, where it is in this range.
@@ -220,26 +224,67 @@ fn solve_of(said: SaidOptions) -> Option<Command>
     }
 }
 
+/// The command, where no words stand behind its own.
+fn alone(command: Command, words: &[String]) -> Option<Command>
+    ensures { result ≡ alone command (map string_bytes words.now) }
+{
+    if words.is_empty() {
+        Some(command)
+    } else {
+        None
+    }
+}
+
+/// The words behind `cnf`: a number of gates and its options.
+fn cnf_in(words: &[String]) -> Option<Command>
+    ensures { result ≡ cnf_in (map string_bytes words.now) }
+{
+    match words {
+        [gates, options @ ..] => {
+            let gates = number_within(gates.as_str(), 0, CNF_GATE_LIMIT)?;
+            let said = options_after(SaidOptions::NONE, options)?;
+            cnf_of(gates, said)
+        }
+        [] => None,
+    }
+}
+
+/// The command of this word with those behind it.
+fn command_in(word: &str, words: &[String]) -> Option<Command>
+    ensures { result ≡ command_of (word.now ∷ map string_bytes words.now) }
+{
+    if word == "synth" {
+        let said = options_after(SaidOptions::NONE, words)?;
+        return Some(synth_of(said));
+    }
+    if word == "normal" {
+        return alone(Command::Normal, words);
+    }
+    if word == "cnf" {
+        return cnf_in(words);
+    }
+    if word == "lrat" {
+        return alone(Command::Lrat, words);
+    }
+    if word == "solve" {
+        let said = options_after(SaidOptions::NONE, words)?;
+        return solve_of(said);
+    }
+    if word == "check" {
+        return alone(Command::Check, words);
+    }
+    if word == "verilog" {
+        return alone(Command::Verilog, words);
+    }
+    None
+}
+
 /// The command that the words name, without the program's name. There is none where they are outside the usage line.
 pub fn read_words(words: &[String]) -> Option<Command>
     ensures { result ≡ command_of (map string_bytes words.now) }
 {
     match words {
-        [word] if word.as_str() == "normal" => Some(Command::Normal),
-        [word] if word.as_str() == "lrat" => Some(Command::Lrat),
-        [word, options @ ..] if word.as_str() == "synth" => {
-            let said = options_after(SaidOptions::NONE, options)?;
-            Some(synth_of(said))
-        }
-        [word, gates, options @ ..] if word.as_str() == "cnf" => {
-            let gates = number_within(gates.as_str(), 0, CNF_GATE_LIMIT)?;
-            let said = options_after(SaidOptions::NONE, options)?;
-            cnf_of(gates, said)
-        }
-        [word, options @ ..] if word.as_str() == "solve" => {
-            let said = options_after(SaidOptions::NONE, options)?;
-            solve_of(said)
-        }
-        _ => None,
+        [word, words @ ..] => command_in(word.as_str(), words),
+        [] => None,
     }
 }

@@ -28,6 +28,11 @@ use Rattle.refusal_lines.proofs.Causes.{Cause, Agree, IsOne, AreApart, either, o
 use Rattle.formula_answers.specs.Judged.{IsLratAnswer}
 use Rattle.formula_answers.proofs.JudgedAgreement.{lrat_answers_agree, lrat_is_ok}
 use Rattle.graph_answers.proofs.FormulaAgreement.{cnf_answers_agree, cnf_is_ok}
+use Rattle.line_text.specs.Lines.{text_of}
+use Rattle.netlist_verilog.specs.Rows.{module_lines}
+use Rattle.report_text.specs.Report.{ReportValue}
+use Rattle.report_answers.specs.Checked.{yes_text, IsReportsAnswer, SpellGoodReport}
+use Rattle.report_answers.proofs.ReportAgreement.{reports_answers_agree, good_is_ok}
 use Rattle.formula_answers.proofs.SolvedAgreement.{solve_answers_alike, solve_is_ok}
 use Rattle.graph_answers.proofs.FileAgreement.{synth_answers_alike, normal_answers_agree, synth_is_answered, normal_is_ok}
 
@@ -144,12 +149,18 @@ module _ (told : List ℕ) (a b : Input) (p : a.left ≡ Some told) (q : b.left 
         (s t : Status) (x y : List ℕ) → s ≢ status.ReadFault → t ≢ status.ReadFault → IsReadingAnswer INPUT_LIMIT (IsGraphTextAnswer OfFile) a s x → IsReadingAnswer INPUT_LIMIT (IsGraphTextAnswer OfFile) b t y → AreAlike (Some c) s x t y
     files_of OfFile alike = readings_of INPUT_LIMIT (IsGraphTextAnswer OfFile) (graph_text_answers_alike OfFile (AreAlike (Some c)) agree_alike alike)
 
+    reports_of : (Prints : ReportValue → List ℕ) → (s t : Status) (x y : List ℕ) → s ≢ status.ReadFault → t ≢ status.ReadFault →
+        IsReadingAnswer LONG_INPUT_LIMIT (IsReportsAnswer Prints) a s x → IsReadingAnswer LONG_INPUT_LIMIT (IsReportsAnswer Prints) b t y → AreAlike (Some c) s x t y
+    reports_of Prints = readings_of LONG_INPUT_LIMIT (IsReportsAnswer Prints) (λ bytes. one_alike (IsReportsAnswer Prints bytes) (reports_answers_agree bytes Prints))
+
   command_answers_alike : (c : Command) (s t : Status) (x y : List ℕ) → s ≢ status.ReadFault → t ≢ status.ReadFault → IsCommandAnswer c a s x → IsCommandAnswer c b t y → AreAlike (Some c) s x t y
   command_answers_alike (command.Synth options) = files_of (command.Synth options) (IsSynthAnswer options) (synth_answers_alike options)
   command_answers_alike command.Normal = files_of command.Normal IsNormalAnswer (λ f. one_alike command.Normal (IsNormalAnswer f) (normal_answers_agree f))
   command_answers_alike (command.Cnf options) = files_of (command.Cnf options) (IsCnfAnswer options) (λ f. one_alike (command.Cnf options) (IsCnfAnswer options f) (cnf_answers_agree options f))
   command_answers_alike command.Lrat = readings_of command.Lrat LONG_INPUT_LIMIT IsLratAnswer (λ bytes. one_alike command.Lrat (IsLratAnswer bytes) (lrat_answers_agree bytes))
   command_answers_alike (command.Solve budget) = readings_of (command.Solve budget) LONG_INPUT_LIMIT (IsSolveAnswer budget) (solve_answers_alike budget)
+  command_answers_alike command.Check = reports_of command.Check (λ r. yes_text)
+  command_answers_alike command.Verilog = reports_of command.Verilog (λ r. text_of (module_lines r.design))
 
   -- so are those of words
   words_answers_alike : (c : Option Command) (s t : Status) (x y : List ℕ) → s ≢ status.ReadFault → t ≢ status.ReadFault → IsWordsAnswer c a s x → IsWordsAnswer c b t y → AreAlike c s x t y
@@ -182,12 +193,19 @@ module _ (Whole : Status → Type 0) (OfFile : Contents → Cause) (Good : Conte
   file_is_answered : (input : Input) → input.left ≡ Some told → (s : Status) (x : List ℕ) → s ≢ status.ReadFault → IsReadingAnswer INPUT_LIMIT (IsGraphTextAnswer OfFile) input s x → Whole s
   file_is_answered = reading_is_answered Whole INPUT_LIMIT (IsGraphTextAnswer OfFile) told good.within text_is_answered
 
+-- all of a text that spells a good report is answered whole
+report_is_answered : (Whole : Status → Type 0) → ((s : Status) → s ≡ status.Ok → Whole s) → (Prints : ReportValue → List ℕ) (told : List ℕ) → SpellGoodReport told
+    → (input : Input) → input.left ≡ Some told → (s : Status) (x : List ℕ) → s ≢ status.ReadFault → IsReadingAnswer LONG_INPUT_LIMIT (IsReportsAnswer Prints) input s x → Whole s
+report_is_answered Whole ok Prints told good = reading_is_answered Whole LONG_INPUT_LIMIT (IsReportsAnswer Prints) told good.within (λ s x h. ok s (good_is_ok told Prints good s x h))
+
 command_is_answered : (c : Command) (told : List ℕ) → AreGoodFor c told → (input : Input) → input.left ≡ Some told → (s : Status) (x : List ℕ) → s ≢ status.ReadFault → IsCommandAnswer c input s x → IsAnswered (Some c) s
 command_is_answered (command.Synth options) told good = file_is_answered (IsAnswered (Some (command.Synth options))) (IsSynthAnswer options) _ (synth_is_answered options) told good
 command_is_answered command.Normal told good = file_is_answered (IsAnswered (Some command.Normal)) IsNormalAnswer _ normal_is_ok told good
 command_is_answered (command.Cnf options) told good = file_is_answered (IsAnswered (Some (command.Cnf options))) (IsCnfAnswer options) _ (cnf_is_ok options) told good
 command_is_answered command.Lrat told good = reading_is_answered (IsAnswered (Some command.Lrat)) LONG_INPUT_LIMIT IsLratAnswer told good.within (lrat_is_ok told good)
 command_is_answered (command.Solve budget) told good = reading_is_answered (IsAnswered (Some (command.Solve budget))) LONG_INPUT_LIMIT (IsSolveAnswer budget) told good.within (solve_is_ok budget told good)
+command_is_answered command.Check told good = report_is_answered (IsAnswered (Some command.Check)) (λ s e. e) (λ r. yes_text) told good
+command_is_answered command.Verilog told good = report_is_answered (IsAnswered (Some command.Verilog)) (λ s e. e) (λ r. text_of (module_lines r.design)) told good
 
 module _ (words : List (List ℕ)) (told : List ℕ) (input : Input) (left : input.left ≡ Some told) (good : IsGoodRun words told) where
   allowed_is_answered : (s : Status) (x : List ℕ) → s ≢ status.ReadFault → IsAllowed words input s x → IsAnswered (command_of words) s

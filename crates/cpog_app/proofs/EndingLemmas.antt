@@ -20,6 +20,10 @@ use Rattle.graph_answers.specs.Refusals.{IsEncodingRefusal}
 use Rattle.graph_answers.specs.Answers.{IsSynthAnswer, IsNormalAnswer, IsCnfAnswer, IsGraphTextAnswer}
 use Rattle.formula_answers.specs.Judged.{IsLratAnswer}
 use Rattle.formula_answers.specs.Solved.{IsSolveAnswer}
+use Rattle.line_text.specs.Lines.{text_of}
+use Rattle.netlist_verilog.specs.Rows.{module_lines}
+use Rattle.report_text.specs.Report.{ReportValue}
+use Rattle.report_answers.specs.Checked.{yes_text, IsReportsAnswer, IsCheckAnswer, IsVerilogAnswer}
 use Rattle.cpog_app.specs.Allowed.{Input, IsFaultAnswer, IsReadingAnswer, IsCommandAnswer, IsWordsAnswer, IsAllowed, Outlet, IsPrinted, Ends}
 use Rattle.refusal_lines.proofs.Causes.{Cause}
 
@@ -88,12 +92,19 @@ solve_whole budget bytes s x (inl (inl h)) = ap is_made h.0
 solve_whole budget bytes s x (inl (inr h)) = ap is_made h.0
 solve_whole budget bytes s x (inr h) = ap is_made h.0
 
+reports_whole : (Prints : ReportValue → List ℕ) (bytes : List ℕ) → AreMade (IsReportsAnswer Prints bytes)
+reports_whole Prints bytes s x (inl (inl h)) = ap is_made h.0
+reports_whole Prints bytes s x (inl (inr h)) = ap is_made h.0
+reports_whole Prints bytes s x (inr h) = ap is_made h.0
+
 command_whole : (c : Command) (input : Input) → AreWhole input (IsCommandAnswer c input)
 command_whole (command.Synth options) = reading_whole INPUT_LIMIT (IsGraphTextAnswer (IsSynthAnswer options)) (text_whole (IsSynthAnswer options) (synth_whole options))
 command_whole command.Normal = reading_whole INPUT_LIMIT (IsGraphTextAnswer IsNormalAnswer) (text_whole IsNormalAnswer normal_whole)
 command_whole (command.Cnf options) = reading_whole INPUT_LIMIT (IsGraphTextAnswer (IsCnfAnswer options)) (text_whole (IsCnfAnswer options) (cnf_whole options))
 command_whole command.Lrat = reading_whole LONG_INPUT_LIMIT IsLratAnswer lrat_whole
 command_whole (command.Solve budget) = reading_whole LONG_INPUT_LIMIT (IsSolveAnswer budget) (solve_whole budget)
+command_whole command.Check = reading_whole LONG_INPUT_LIMIT IsCheckAnswer (reports_whole (λ r. yes_text))
+command_whole command.Verilog = reading_whole LONG_INPUT_LIMIT IsVerilogAnswer (reports_whole (λ r. text_of (module_lines r.design)))
 
 words_whole : (c : Option Command) (input : Input) → AreWhole input (IsWordsAnswer c input)
 words_whole None input = λ s x h. inl (ap is_made h.0)

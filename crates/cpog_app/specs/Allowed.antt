@@ -16,6 +16,7 @@ use Rattle.refusal_lines.specs.Refusal.{refusal_text, At}
 use Rattle.graph_answers.specs.Answers.{IsGraphTextAnswer, IsSynthAnswer, IsNormalAnswer, IsCnfAnswer}
 use Rattle.formula_answers.specs.Judged.{IsLratAnswer}
 use Rattle.formula_answers.specs.Solved.{IsSolveAnswer}
+use Rattle.report_answers.specs.Checked.{IsCheckAnswer, IsVerilogAnswer}
 
 -- ---- what is printed for words and a source
 
@@ -66,6 +67,8 @@ IsCommandAnswer command.Normal = IsReadingAnswer INPUT_LIMIT (IsGraphTextAnswer 
 IsCommandAnswer (command.Cnf options) = IsReadingAnswer INPUT_LIMIT (IsGraphTextAnswer (IsCnfAnswer options))
 IsCommandAnswer command.Lrat = IsReadingAnswer LONG_INPUT_LIMIT IsLratAnswer
 IsCommandAnswer (command.Solve budget) = IsReadingAnswer LONG_INPUT_LIMIT (IsSolveAnswer budget)
+IsCommandAnswer command.Check = IsReadingAnswer LONG_INPUT_LIMIT IsCheckAnswer
+IsCommandAnswer command.Verilog = IsReadingAnswer LONG_INPUT_LIMIT IsVerilogAnswer
 
 -- the answers to words: those of the command that they name, or the usage line
 abbrev pub IsWordsAnswer : Option Command → Input → Status → List ℕ → Type 0

@@ -11,6 +11,7 @@ use Rattle.graph_answers.specs.Answers.{IsReportStatus}
 use Rattle.graph_answers.specs.Good.{SpellFile, CanBeEncoded, CanBeAsked}
 use Rattle.formula_answers.specs.Judged.{SpellRefutation}
 use Rattle.formula_answers.specs.Solved.{SpellFormula}
+use Rattle.report_answers.specs.Checked.{SpellGoodReport}
 use Rattle.cpog_app.specs.Allowed.{Input, Outlet, Ends}
 
 -- bytes that a command refuses for no cause
@@ -20,6 +21,8 @@ AreGoodFor command.Normal = SpellFile (λ f. name_faults f ≡ [])
 AreGoodFor (command.Cnf options) = SpellFile (CanBeAsked options)
 AreGoodFor command.Lrat = SpellRefutation
 AreGoodFor (command.Solve budget) = SpellFormula
+AreGoodFor command.Check = SpellGoodReport
+AreGoodFor command.Verilog = SpellGoodReport
 
 -- the words name a command, which refuses the bytes for no cause
 pub record IsGoodRun (words : List (List ℕ)) (bytes : List ℕ) : Type 0 where

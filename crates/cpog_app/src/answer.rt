@@ -6,16 +6,13 @@ ghost use Rattle.command_words.specs.Ranges.{MayBeNamed};
 ghost use Rattle.cpog_app.specs.Allowed.{IsReadRefusal, IsCommandAnswer, IsAllowed};
 ghost use Rattle.refusal_lines.specs.Stops.{IsStop};
 
-use graph_answers::answer_cnf;
-use formula_answers::answer_lrat;
-use graph_answers::answer_normal;
-use refusal_lines::Refusal;
-use formula_answers::answer_solve;
-use refusal_lines::{Answer, Stop, refuse};
-use graph_answers::answer_synth;
 use command_words::{Command, read_words};
 use cpog_base::{Counted, INPUT_LIMIT, LONG_INPUT_LIMIT, Memory, Status};
 use cpog_outside::{ReadAllFault, Source, read_all};
+use formula_answers::{answer_lrat, answer_solve};
+use graph_answers::{answer_cnf, answer_normal, answer_synth};
+use refusal_lines::{Answer, Refusal, Stop, refuse};
+use report_answers::{answer_check, answer_verilog};
 use std::alloc::Global;
 
 /// All that the source has left, where it is within the limit.
@@ -78,6 +75,14 @@ fn answer_command<S: Source>(
         Command::Solve { budget } => {
             let bytes = read_input(alloc, source, LONG_INPUT_LIMIT)?;
             answer_solve(alloc, budget, &bytes)
+        }
+        Command::Check => {
+            let bytes = read_input(alloc, source, LONG_INPUT_LIMIT)?;
+            answer_check(alloc, &bytes)
+        }
+        Command::Verilog => {
+            let bytes = read_input(alloc, source, LONG_INPUT_LIMIT)?;
+            answer_verilog(alloc, &bytes)
         }
     }
 }
