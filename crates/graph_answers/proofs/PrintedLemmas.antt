@@ -17,7 +17,8 @@ use Rattle.report_text.specs.Rows.{report_lines}
 use Rattle.report_text.specs.Laws.{EndsWithModule}
 use Rattle.report_text.proofs.ModuleLemmas.{module_ends}
 use Rattle.command_words.specs.declared.words.SynthOptions.{SynthOptions}
-use Rattle.graph_answers.specs.Synthesis.{printed_lower, Attains, IsSound, IsSynthesis, report_status}
+use Rattle.graph_answers.specs.Synthesis.{IsSound, IsSynthesis, report_status}
+use Rattle.report_judge.specs.Known.{printed_lower, Attains}
 use Rattle.graph_answers.specs.Printed.{ShowsEachRun}
 use Rattle.graph_answers.specs.Answers.{IsReportAnswer, IsSynthAnswer}
 

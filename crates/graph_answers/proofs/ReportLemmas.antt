@@ -25,6 +25,8 @@ use Rattle.pg_text.specs.Text.{IsFile}
 use Rattle.report_text.specs.declared.bound.Bound.{Bound}
 use Rattle.report_text.specs.declared.bound.Bound.TheVariants.{Minimum, Between}
 use Rattle.report_text.specs.declared.version.Version.TheVariants.{One}
+use Rattle.report_judge.specs.Laws.{IsReportOfSearch}
+use Rattle.report_judge.proofs.SearchedLemmas.{report_of_search_is_good}
 use Rattle.report_text.specs.Report.{ReportValue, IsArcBefore, IsBound, IsReportEvidence, IsReportOpen, IsReport, IsReported}
 use Rattle.opcode_assign.specs.Answers.{IsSearched}
 use Rattle.opcode_assign.specs.Assignments.{IsFirstAssignment, IsFirstOrFewer}
@@ -37,7 +39,8 @@ use Rattle.graph_answers.specs.Ordered.{AreOrdersIn}
 use Rattle.graph_answers.specs.Bits.{synth_length}
 use Rattle.command_words.specs.Ranges.{MayBeAsked}
 use Rattle.graph_answers.specs.Encodable.{IsEncodable}
-use Rattle.graph_answers.specs.Synthesis.{free_patterns, printed_lower, Attains, IsSound, IsSynthesis}
+use Rattle.graph_answers.specs.Synthesis.{free_patterns, IsSound, IsSynthesis}
+use Rattle.report_judge.specs.Known.{printed_lower, Attains}
 use Rattle.order_reduce.specs.Scenarios.{covering_scenario}
 use Rattle.graph_answers.proofs.ArcLemmas.{arcs_from, arcs_where, from_u, begin_below, has_one, has_append}
 use Rattle.graph_answers.proofs.DenotingLemmas.{length-denoted}
@@ -316,9 +319,30 @@ module _ (options : SynthOptions) (may : MayBeAsked options) (x : Encodable) (is
   }
 
   -- and sound
+  -- it is what a search says
+  of_search : IsReportOfSearch report
+  of_search = record {
+    orders = orders;
+    one_count = orders_are x.file orders is.orders;
+    scenarios = refl;
+    different = is.different;
+    encodes = subst (λ m. Encodes m orders given x.bits e) same found.encodes;
+    module_names = refl;
+    module_netlist = netlist;
+    attained = attained;
+    columns = found.columns;
+    are_columns = found.are_columns;
+    classes = found.classes;
+    are_classes = found.are_classes;
+    evidence = subst (λ m. IsEvidence m orders given x.bits found.classes.columns (printed_lower b) evidence) same
+        (subst (λ k. IsEvidence (count_of orders) orders given x.bits found.classes.columns k evidence) (sym lower) found.is_evidence);
+    open_part = subst (λ k. IsOpenPart given x.bits found.classes.columns k (length e.gates.gates) options.budget open_part) (sym lower) found.is_open_part;
+  }
+
   pub report_is_sound : IsSound x.file report
   report_is_sound = record {
     report = report_is_lawful;
+    good = report_of_search_is_good report of_search;
     names = refl;
     scenario_names = refl;
     orders = orders;
@@ -332,22 +356,21 @@ module _ (options : SynthOptions) (may : MayBeAsked options) (x : Encodable) (is
     module_names = refl;
     module_netlist = netlist;
     lower_bound = subst (λ m. IsLowerBound m orders given x.bits (printed_lower b)) same (subst (λ k. IsLowerBound (count_of orders) orders given x.bits k) (sym lower) found.lower);
-    one_count = orders_are x.file orders is.orders;
+    one_count = of_search.one_count;
     enough_bits = is.enough;
-    compared = subst (λ m. Encodes m orders given x.bits e) same found.encodes;
+    compared = of_search.encodes;
     attained = attained;
     few_gates = found.few_gates;
     columns = found.columns;
     are_columns = found.are_columns;
     classes = found.classes;
     are_classes = found.are_classes;
-    evidence = subst (λ m. IsEvidence m orders given x.bits found.classes.columns (printed_lower b) evidence) same
-        (subst (λ k. IsEvidence (count_of orders) orders given x.bits found.classes.columns k evidence) (sym lower) found.is_evidence);
+    evidence = of_search.evidence;
     taken = found.taken;
     counting_set = found.set;
     counting_bound = subst (λ k. length found.taken ≤ k + x.bits) (sym lower) found.counted;
     shown_by = subst (λ k. IsShownBy found.classes given x.bits options.budget found.taken k evidence) (sym lower) found.shown_by;
-    open_part = subst (λ k. IsOpenPart given x.bits found.classes.columns k (length e.gates.gates) options.budget open_part) (sym lower) found.is_open_part;
+    open_part = of_search.open_part;
     refs = found.refs;
     serve = found.serve;
     conditions = subst (λ m. IsGraphByClass m found.classes found.refs e.graph) same found.conditions;

@@ -16,7 +16,8 @@ use Rattle.graph_answers.specs.Bits.{synth_length, cnf_length}
 use Rattle.graph_answers.specs.Formula.{IsLargeAnswer, IsFormulaAnswer}
 use Rattle.refusal_lines.specs.Refusal.{At}
 use Rattle.graph_answers.specs.Refusals.{IsTextRefusal, IsNamesRefusal, IsEncodingRefusal}
-use Rattle.graph_answers.specs.Synthesis.{printed_lower, IsSynthesis}
+use Rattle.graph_answers.specs.Synthesis.{IsSynthesis}
+use Rattle.report_judge.specs.Known.{printed_lower}
 use Rattle.graph_answers.specs.Printed.{PrintsController}
 
 -- ---- what is printed for a graph text

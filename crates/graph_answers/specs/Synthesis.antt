@@ -22,7 +22,9 @@ use Rattle.opcode_assign.specs.Assignments.{IsFirstAssignment, IsFirstOrFewer, m
 use Rattle.opcode_assign.specs.Searches.{IsShownBy}
 use Rattle.pg_text.specs.Contents.{Contents}
 use Rattle.report_text.specs.declared.bound.Bound.{Bound}
-use Rattle.report_text.specs.declared.bound.Bound.TheVariants.{Minimum, Between}
+use Rattle.report_text.specs.declared.bound.Bound.TheVariants.{Between}
+use Rattle.report_judge.specs.Good.{IsGood}
+use Rattle.report_judge.specs.Known.{printed_lower, Attains}
 use Rattle.report_text.specs.Report.{ReportValue, IsReport}
 use Rattle.command_words.specs.declared.words.SynthOptions.{SynthOptions}
 use Rattle.graph_answers.specs.Bits.{synth_length, IsBits}
@@ -34,20 +36,12 @@ use Rattle.order_reduce.specs.Scenarios.{covering_scenario}
 abbrev pub free_patterns : ℕ → ℕ → List (List Bit3)
 free_patterns n bits = replicate n (replicate bits Free)
 
--- the lower bound that is printed
-abbrev pub printed_lower : Bound → ℕ
-printed_lower (Minimum h) = h
-printed_lower (Between lo hi) = lo
-
--- so many gates attain a printed minimum; where two bounds are printed they are the higher one, and the lower one is less
-abbrev pub Attains : ℕ → Bound → Type 0
-Attains gates (Minimum h) = gates ≡ h
-Attains gates (Between lo hi) = (gates ≡ hi) × (lo < hi)
-
 -- A report is sound for a file, whoever made it: what each sentence of the headline says of it has its field.
 pub record IsSound (f : Contents) (r : ReportValue) : Type 0 where
   -- it keeps the ranges of its format
   pub report : IsReport r
+  -- each part of it that a judge tests holds
+  pub good : IsGood r
   -- its scenarios are the file's, in their order, with their covering pairs; no two of them are equal
   pub names : r.names ≡ f.operations
   pub scenario_names : r.scenario_names ≡ scenario_names_of f

@@ -9,7 +9,8 @@ ghost use Rattle.graph_answers.specs.Bits.{synth_length};
 ghost use Rattle.command_words.specs.Ranges.{MayBeAsked};
 ghost use Rattle.graph_answers.specs.Encodable.{IsEncodable};
 ghost use Rattle.order_reduce.specs.Scenarios.{covering_scenario};
-ghost use Rattle.graph_answers.specs.Synthesis.{free_patterns, printed_lower, Attains, IsSynthesis};
+ghost use Rattle.graph_answers.specs.Synthesis.{free_patterns, IsSynthesis};
+ghost use Rattle.report_judge.specs.Known.{printed_lower, Attains};
 
 use crate::encodable::Encodable;
 use command_words::SynthOptions;

@@ -5,7 +5,8 @@ use Rattle.cpog_defs.specs.Gates.{GateList}
 use Rattle.pg_normal.specs.Denoting.{scenario_names_of}
 use Rattle.pg_text.specs.Text.{IsFile}
 use Rattle.netlist_verilog.specs.Module.{AreNames}
-use Rattle.graph_answers.specs.Synthesis.{free_patterns, Attains}
+use Rattle.graph_answers.specs.Synthesis.{free_patterns}
+use Rattle.report_judge.specs.Known.{Attains}
 use Rattle.graph_answers.proofs.FileNames.{operations_are_names}
 use Rattle.graph_answers.proofs.ReportLemmas.{orders_alike, same_count, search_of_equal, report_is_lawful, report_is_synthesis}
 use Rattle.graph_answers.proofs.synthesis.report_of.Goals as goal
