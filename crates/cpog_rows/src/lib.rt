@@ -29,6 +29,8 @@ mod one_bit;
 #[cfg(test)]
 mod refutations;
 #[cfg(test)]
+mod reports;
+#[cfg(test)]
 mod running;
 #[cfg(test)]
 mod searches;
