@@ -1,11 +1,10 @@
 -- Scenarios have one list of orders, and one list of class columns.
-use Rattle.std.proofs.Common.{◌≡◌, ℕ, zero, suc, ◌<◌, Bool, IsTrue, List, [], ◌∷◌, length, get_or, refl, sym, ap, ap₂, ◌∙◌, subst}
+use Rattle.std.proofs.Common.{◌≡◌, ℕ, List, [], ◌∷◌, refl, sym, ap₂, ◌∙◌, subst}
 use Rattle.std.specs.FinSet as set
 use Rattle.std.specs.FinMap.{nat_cmp-IsAntisymmetric}
 use Rattle.std.specs.Cmp.{nat_cmp_total}
 use Rattle.std.proofs.lemmas.List.{ext_get_or}
 use Rattle.cpog_defs.specs.declared.types.Bit3.{Bit3}
-use Rattle.cpog_defs.specs.declared.types.Place.{Place}
 use Rattle.cpog_defs.specs.Graphs.{IsPlace}
 use Rattle.cpog_defs.specs.Orders.{Order, is_before}
 use Rattle.cpog_defs.specs.Scenarios.{Scenario, IsOrderOfScenario, AreOrdersOf}

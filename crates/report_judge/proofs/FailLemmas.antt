@@ -1,6 +1,5 @@
 -- A part that holds doesn't fail, and a part fails by one reason.
-use Rattle.std.proofs.Common.{◌≡◌, ℕ, zero, suc, ◌<◌, Bool, List, [], ◌∷◌, length, get_or, refl, sym, ap, ap₂, ◌∙◌, subst, inl, inr, arith}
-use Rattle.std.specs.Prelude.{Some, slice_get}
+use Rattle.std.proofs.Common.{◌≡◌, ℕ, zero, suc, ◌<◌, Bool, List, [], length, get_or, refl, sym, ap, ap₂, ◌∙◌, subst, inl, inr, arith}
 use Rattle.std.specs.FinSet as set
 use Rattle.std.proofs.lemmas.Bool.{cases_lt}
 use Rattle.std.proofs.lemmas.Option.{slice_get-get_or}
@@ -22,16 +21,15 @@ use Rattle.gate_template.specs.Templates.{template}
 use Rattle.report_text.specs.Report.{ReportValue}
 use Rattle.report_judge.specs.declared.reason.Reason.{Reason}
 use Rattle.report_judge.specs.declared.reason.Reason.TheVariants as reasons
-use Rattle.report_judge.specs.Codes.{HaveOneCode, IsKeptAt, IsFirstSame, IsFirstLost}
-use Rattle.report_judge.specs.Fitting.{scenario_at, values_at, OperationFits, PairFits, IsPairBefore, IsFirstOther, IsFirstDisordered, FitsAt, IsFirstWrongOperation, IsFirstWrongPair}
-use Rattle.report_judge.specs.Good.{ByClasses, Holds}
-use Rattle.report_judge.specs.Known.{printed_lower, template_variables, SpeaksOf, IsShown, IsMember, FailsAtMember, FailsAtLine, FailsWithoutEmpty, IsOpenBetween, OpenFollows, OpenBreaks}
-use Rattle.report_judge.specs.Parts.{Part, place}
-use Rattle.report_judge.specs.Reasons.{HaveFirstEqual, part_of, Fails, IsFirstFailing}
+use Rattle.report_judge.specs.Codes.{HaveOneCode, IsKeptAt, IsFirstLost}
+use Rattle.report_judge.specs.Fitting.{scenario_at, values_at, OperationFits, IsFirstOther, IsFirstDisordered, FitsAt, IsFirstWrongOperation, IsFirstWrongPair}
+use Rattle.report_judge.specs.Good.{Holds}
+use Rattle.report_judge.specs.Known.{template_variables, IsShown, IsMember, FailsAtMember, FailsAtLine, FailsWithoutEmpty, OpenFollows, OpenBreaks}
+use Rattle.report_judge.specs.Parts.{place}
+use Rattle.report_judge.specs.Reasons.{part_of, Fails, IsFirstFailing}
 use Rattle.report_judge.proofs.BasisLemmas.{one_orders, with_both}
 use Rattle.report_judge.proofs.FirstLemmas.{one_number, one_pair, follow_or_break, one_first_break}
 use Rattle.report_judge.proofs.FittingLemmas.{same_truth}
-use Rattle.report_judge.proofs.StepLemmas.{one_part}
 
 -- ---- what holds doesn't fail
 

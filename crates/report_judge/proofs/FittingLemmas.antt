@@ -1,8 +1,8 @@
 -- What is left under a code, by sets and rows.
-use Rattle.std.proofs.Common.{◌≡◌, ◌↔◌, ℕ, zero, suc, ◌+◌, ◌<◌, ◌≤◌, Bool, true, false, not, ◌&&◌, ◌||◌, if◌then◌else◌, IsTrue, List, [], ◌∷◌, ◌++◌, length, get_or, refl, sym, ap, ◌∙◌, subst, inl, inr, arith, add-one, append_assoc, append-nil}
+use Rattle.std.proofs.Common.{◌≡◌, ℕ, zero, suc, ◌+◌, ◌<◌, Bool, true, false, not, ◌&&◌, ◌||◌, if◌then◌else◌, IsTrue, List, [], ◌∷◌, ◌++◌, length, get_or, refl, sym, ap, ◌∙◌, subst, inl, inr, arith, add-one, append_assoc, append-nil}
 use Rattle.std.specs.Prelude.{Option, None, Some, MatchOption}
 use Rattle.std.specs.List.{All, Contains}
-use Rattle.std.proofs.lemmas.Bool.{cases_eq, cases_lt, cases_Bool, both_ways, and_parts, and_from}
+use Rattle.std.proofs.lemmas.Bool.{cases_eq, cases_lt, both_ways, and_parts}
 use Rattle.std.proofs.lemmas.List.{get_or_past}
 use Rattle.std.proofs.lemmas.Option.{same_Some, slice_get-get_or, slice_get_within}
 use Rattle.std.proofs.lemmas.List.Elements.{Contains-append_left, Contains-append_right}
@@ -16,13 +16,13 @@ use Rattle.cpog_defs.specs.declared.types.Ref.TheVariants.{Const}
 use Rattle.cpog_defs.specs.Gates.{ref_value, signal_values}
 use Rattle.cpog_defs.specs.Encodings.{Encoding, FitsScenarios}
 use Rattle.cpog_defs.specs.Graphs.{ConditionalGraph, keeps, keeps_arc, KeptWalk}
-use Rattle.cpog_defs.specs.Orders.{Set, Order, is_before, each_below, arc_of}
-use Rattle.cpog_defs.specs.Scenarios.{Scenario, IsBefore, IsOrderOfScenario}
-use Rattle.cpog_defs.specs.Walks.{Walk, last, more}
+use Rattle.cpog_defs.specs.Orders.{Set, Order, each_below, arc_of}
+use Rattle.cpog_defs.specs.Scenarios.{Scenario, IsOrderOfScenario}
+use Rattle.cpog_defs.specs.Walks.{last, more}
 use Rattle.cpog_defs.proofs.WalkLemmas.{replaced}
 use Rattle.order_reduce.proofs.PairWalks.{from_each, from_if}
 use Rattle.scenario_check.specs.Rows.{AreRowsOf}
-use Rattle.report_judge.specs.Fitting.{OperationFits, PairFits, IsLeft, values_at, scenario_at, FitsAt, IsFirstOther, IsPairBefore, IsFirstDisordered}
+use Rattle.report_judge.specs.Fitting.{OperationFits, PairFits, IsLeft, values_at, FitsAt, IsFirstDisordered}
 use Rattle.report_judge.specs.Steps.{kept_from, kept_pairs, IsFirstDifference}
 
 -- a weaker fact of an option

@@ -1,18 +1,15 @@
 -- Evidence and open parts of a report.
-use Rattle.std.proofs.Common.{◌≡◌, ℕ, zero, suc, ◌+◌, ◌<◌, ◌≤◌, Bool, true, false, IsTrue, List, [], ◌∷◌, length, get_or, refl, sym, ap, ◌∙◌, subst, arith}
-use Rattle.std.specs.List.{All, AllPairs, list_any}
-use Rattle.std.proofs.lemmas.Bool.{both_ways}
+use Rattle.std.proofs.Common.{◌≡◌, ℕ, zero, suc, ◌+◌, ◌<◌, ◌≤◌, IsTrue, List, [], ◌∷◌, length, get_or, refl, sym, ap, ◌∙◌, subst, arith}
+use Rattle.std.specs.List.{All, list_any}
 use Rattle.std.proofs.lemmas.List.{length-map}
 use Rattle.cpog_base.specs.Column.{is_one, is_zero}
-use Rattle.cpog_defs.specs.declared.types.Bit3.{Bit3}
 use Rattle.cpog_defs.specs.declared.types.Gate.{Gate}
 use Rattle.cpog_defs.specs.declared.types.Place.{Place}
 use Rattle.cpog_defs.specs.declared.types.Place.TheVariants.{Op}
 use Rattle.cpog_defs.specs.Columns.{column, entry}
-use Rattle.cpog_defs.specs.Gates.{GateList, AreGatesFrom, IsGateList}
+use Rattle.cpog_defs.specs.Gates.{AreGatesFrom}
 use Rattle.cpog_defs.specs.Graphs.{IsPlace}
 use Rattle.cpog_defs.specs.Orders.{Order}
-use Rattle.cpog_defs.specs.Scenarios.{AreOrdersOf}
 use Rattle.gate_core.specs.Columns.{IsOpenColumn}
 use Rattle.cpog_merge.specs.Columns.{Columns, AreColumnsOf, column_at, count_of}
 use Rattle.cpog_merge.specs.Incompatible.{AreIncompatible, IsCountEvidence}
@@ -25,13 +22,13 @@ use Rattle.cnf_build.specs.Evidence.{EvidenceValue, OpenValue}
 use Rattle.cnf_build.specs.Sizes.{IsAsked}
 use Rattle.report_text.specs.declared.bound.Bound.{Bound}
 use Rattle.report_text.specs.declared.bound.Bound.TheVariants.{Minimum, Between}
-use Rattle.report_text.specs.Report.{ReportValue, IsReport, IsReportEvidence, IsReportOpen, IsBound}
+use Rattle.report_text.specs.Report.{ReportValue, IsReport, IsReportEvidence, IsBound}
 use Rattle.report_text.specs.declared.version.Version.{Version}
 use Rattle.report_text.specs.declared.version.Version.TheVariants.{One}
 use Rattle.report_text.specs.Versions.{gate_limit}
 use Rattle.report_judge.specs.declared.basis.Basis.{Basis}
 use Rattle.report_judge.specs.Good.{ByClasses}
-use Rattle.report_judge.specs.Known.{printed_lower, template_variables, SpeaksOf, IsShown, member_column, IsMember, IsFirstNoMember, FailsAtMember, FailsAtLine, FailsWithoutEmpty, IsOpenBetween, OpenFollows, OpenBreaks}
+use Rattle.report_judge.specs.Known.{printed_lower, template_variables, SpeaksOf, IsShown, member_column, IsMember, IsFirstNoMember, FailsAtMember, FailsAtLine, FailsWithoutEmpty, IsOpenBetween, OpenBreaks}
 use Rattle.report_judge.specs.Steps.{IsBasis}
 use Rattle.report_judge.proofs.ReportLemmas.{count_is}
 use Rattle.report_judge.proofs.StepLemmas.{by_classes}

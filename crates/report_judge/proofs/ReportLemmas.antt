@@ -1,11 +1,10 @@
 -- What is known of the scenarios of a report.
-use Rattle.std.proofs.Common.{◌≡◌, ℕ, zero, suc, ◌<◌, ◌≤◌, List, [], ◌∷◌, length, get_or, refl, sym, ap, ap₂, ◌∙◌, subst, arith}
-use Rattle.std.specs.Prelude.{Some, slice_get}
+use Rattle.std.proofs.Common.{◌≡◌, ℕ, zero, suc, ◌<◌, ◌≤◌, List, [], ◌∷◌, length, get_or, refl, sym, ap, ◌∙◌, subst, arith}
 use Rattle.std.specs.List.{All}
 use Rattle.cpog_defs.specs.Orders.{Order, IsOrderOf}
 use Rattle.cpog_defs.specs.Scenarios.{Scenario, IsOrderOfScenario, AreOrdersOf}
 use Rattle.cpog_merge.specs.Columns.{count_of}
-use Rattle.report_text.specs.Report.{ReportValue, IsReport, IsReported}
+use Rattle.report_text.specs.Report.{ReportValue, IsReport}
 
 -- one order a scenario
 pub orders_length : (scenarios : List Scenario) (orders : List Order) → AreOrdersOf scenarios orders → length scenarios ≡ length orders

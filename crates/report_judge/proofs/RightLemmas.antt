@@ -1,12 +1,11 @@
 -- What a good report tells is so.
-use Rattle.std.proofs.Common.{◌≡◌, ℕ, ◌^◌, ◌<◌, ◌≤◌, List, length, sym, ap, ◌∙◌, subst, arith}
+use Rattle.std.proofs.Common.{◌≡◌, ℕ, ◌^◌, ◌<◌, List, length, sym, ◌∙◌, subst, arith}
 use Rattle.std.specs.List.{All}
 use Rattle.cpog_defs.specs.declared.types.Bit3.{Bit3}
 use Rattle.cpog_defs.specs.Codes.{AreCodes}
 use Rattle.cpog_defs.specs.Encodings.{IsEncoding}
 use Rattle.cpog_defs.specs.Scenarios.{AreOrdersOf}
 use Rattle.cpog_defs.specs.Orders.{Order}
-use Rattle.cpog_merge.specs.Columns.{count_of}
 use Rattle.cpog_merge.proofs.ScenarioLemmas.{fits_is_fitting_scenarios_lem}
 use Rattle.cnf_build.specs.Evidence.{EvidenceValue, IsEvidence}
 use Rattle.cnf_build.proofs.EvidenceLemmas.{evidence_bounds_lem}
@@ -14,7 +13,7 @@ use Rattle.gate_core.specs.Bounds.{IsLowerBound}
 use Rattle.handshake_eqs.proofs.NetlistLemmas.{agrees_over_runs}
 use Rattle.handshake_eqs.proofs.StepLemmas.{few_distinct}
 use Rattle.report_text.specs.Report.{ReportValue, IsReport}
-use Rattle.report_judge.specs.Good.{ByClasses, IsGood}
+use Rattle.report_judge.specs.Good.{IsGood}
 use Rattle.report_judge.specs.Known.{printed_lower, SpeaksOf, IsShown, AreClassColumns}
 use Rattle.report_judge.specs.Laws.{IsRight}
 use Rattle.report_judge.specs.Parts.{Part}

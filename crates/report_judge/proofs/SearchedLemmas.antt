@@ -1,5 +1,5 @@
 -- The report of a search is good.
-use Rattle.std.proofs.Common.{◌≡◌, ℕ, zero, suc, ◌<◌, List, [], ◌∷◌, length, map, refl, sym, ◌∙◌, subst, arith}
+use Rattle.std.proofs.Common.{ℕ, suc, List, [], ◌∷◌, length, map, refl, sym, subst, arith}
 use Rattle.std.specs.List.{All}
 use Rattle.clause_arena.specs.Clauses.{Clause}
 use Rattle.cpog_defs.specs.declared.types.Bit3.{Bit3}
@@ -13,8 +13,8 @@ use Rattle.proof_check.specs.Lines.{Line}
 use Rattle.proof_check.specs.Following.{Live, after, AllFollow}
 use Rattle.proof_check.specs.Progress.{IsProgress}
 use Rattle.report_text.specs.Report.{ReportValue}
-use Rattle.report_judge.specs.Good.{ByClasses, Holds, IsGood}
-use Rattle.report_judge.specs.Known.{printed_lower, SpeaksOf, IsShown, IsOpenBetween, OpenFollows, ReachesBudget, AreClassColumns}
+use Rattle.report_judge.specs.Good.{ByClasses, IsGood}
+use Rattle.report_judge.specs.Known.{printed_lower, SpeaksOf, IsShown, IsOpenBetween, OpenFollows, ReachesBudget}
 use Rattle.report_judge.specs.Laws.{IsReportOfSearch}
 use Rattle.report_judge.specs.Parts.{Part}
 

@@ -1,5 +1,5 @@
 -- One part after the other.
-use Rattle.std.proofs.Common.{◌≡◌, ℕ, zero, suc, ◌+◌, ◌<◌, Bool, false, refl, sym, ap, ◌∙◌, subst, inl, inr, arith}
+use Rattle.std.proofs.Common.{◌≡◌, ℕ, zero, suc, ◌+◌, ◌<◌, refl, sym, ap, ◌∙◌, subst, inl, inr, arith}
 use Rattle.std.specs.Prelude.{List, Result, Ok, Err, OnOk, IfErr}
 use Rattle.std.proofs.lemmas.Bool.{cases_eq}
 use Rattle.cpog_defs.specs.declared.types.Bit3.{Bit3}
@@ -8,10 +8,9 @@ use Rattle.report_text.specs.Report.{ReportValue}
 use Rattle.report_judge.specs.declared.basis.Basis.{Basis}
 use Rattle.report_judge.specs.declared.fault.Fault.{Fault}
 use Rattle.report_judge.specs.declared.fault.Fault.TheVariants as faults
-use Rattle.report_judge.specs.declared.reason.Reason.{Reason}
 use Rattle.report_judge.specs.Good.{ByClasses, Holds, IsGood}
 use Rattle.report_judge.specs.Parts.{Part, place}
-use Rattle.report_judge.specs.Reasons.{part_of, Fails, HoldBelow, IsFirstFailing}
+use Rattle.report_judge.specs.Reasons.{HoldBelow}
 use Rattle.report_judge.specs.Steps.{IsBasis, IsFaultAt, IsFirstFault}
 
 -- the part at a place

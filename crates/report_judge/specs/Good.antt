@@ -1,5 +1,5 @@
 -- When a report is good.
-use Rattle.std.specs.Prelude.{◌≡◌, ◌≢◌, ℕ, List, length}
+use Rattle.std.specs.Prelude.{◌≡◌, ◌≢◌, List, length}
 use Rattle.std.specs.List.{AllPairs}
 use Rattle.cpog_defs.specs.declared.types.Bit3.{Bit3}
 use Rattle.cpog_defs.specs.Orders.{Order}

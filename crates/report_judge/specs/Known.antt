@@ -8,7 +8,6 @@ use Rattle.cpog_defs.specs.Orders.{Order}
 use Rattle.cpog_defs.specs.Columns.{column}
 use Rattle.cpog_defs.specs.Scenarios.{Scenario, AreOrdersOf}
 use Rattle.clause_arena.specs.Arenas.{literals}
-use Rattle.clause_arena.specs.Clauses.{Clause}
 use Rattle.gate_core.specs.Columns.{IsOpenColumn}
 use Rattle.cpog_merge.specs.Columns.{Columns, AreColumnsOf}
 use Rattle.cpog_merge.specs.Classes.{Classes, AreClassesOf}

@@ -1,5 +1,5 @@
 -- What is proved of good reports and of reasons.
-use Rattle.std.specs.Prelude.{◌≡◌, ℕ, ◌≤◌, ◌^◌, List, length, map}
+use Rattle.std.specs.Prelude.{◌≡◌, ◌≤◌, ◌^◌, List, length, map}
 use Rattle.std.specs.List.{All}
 use Rattle.cpog_defs.specs.Orders.{Order, IsOrderOf}
 use Rattle.cpog_defs.specs.Scenarios.{AreOrdersOf}

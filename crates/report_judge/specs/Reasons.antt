@@ -1,5 +1,5 @@
 -- What a reason says of a report, and which is the first.
-use Rattle.std.specs.Prelude.{◌≡◌, ℕ, ◌<◌, List, length}
+use Rattle.std.specs.Prelude.{ℕ, ◌<◌, List, length}
 use Rattle.cpog_defs.specs.Orders.{Order}
 use Rattle.cpog_defs.specs.Scenarios.{AreOrdersOf}
 use Rattle.scenario_check.specs.Cycles.{IsFirstCyclic}

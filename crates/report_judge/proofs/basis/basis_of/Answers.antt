@@ -1,4 +1,4 @@
-use Rattle.std.proofs.Common.{◌≡◌, ◌∙◌, List, ap, length, subst, sym, arith}
+use Rattle.std.proofs.Common.{◌∙◌, List, ap, length, subst, sym, arith}
 use Rattle.std.specs.List.{All}
 use Rattle.cpog_defs.specs.Orders.{Order, IsOrderOf}
 use Rattle.cpog_defs.specs.Scenarios.{AreOrdersOf}

@@ -1,4 +1,4 @@
-use Rattle.std.proofs.Common.{◌≡◌, ◌∙◌, ◌<◌, List, refl, ap, length, subst, sym}
+use Rattle.std.proofs.Common.{◌∙◌, ◌<◌, List, refl, ap, length, subst, sym}
 use Rattle.std.specs.List.{All}
 use Rattle.cpog_defs.specs.declared.types.Place.{Place}
 use Rattle.cpog_defs.specs.Graphs.{IsPlace}

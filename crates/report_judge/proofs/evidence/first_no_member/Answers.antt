@@ -1,6 +1,6 @@
-use Rattle.std.proofs.Common.{◌≡◌, ◌∙◌, sym, subst, add-one, below_more}
+use Rattle.std.proofs.Common.{add-one, below_more}
 use Rattle.std.proofs.lemmas.Bool.{both_ways}
-use Rattle.report_judge.specs.Known.{IsMember, IsFirstNoMember}
+use Rattle.report_judge.specs.Known.{IsMember}
 use Rattle.report_judge.proofs.evidence.first_no_member.Goals as goal
 
 pub returns-then-not-is_member : goal.returns-then-not-is_member

@@ -1,7 +1,6 @@
-use Rattle.std.proofs.Common.{◌≡◌, ◌∙◌, ℕ, List, ap, length, subst, sym}
+use Rattle.std.proofs.Common.{◌∙◌, ℕ, List, ap, subst, sym}
 use Rattle.std.specs.FinSet as set
-use Rattle.cpog_defs.specs.Orders.{Set, Order}
-use Rattle.scenario_check.specs.Rows.{AreRowsOf}
+use Rattle.cpog_defs.specs.Orders.{Set}
 use Rattle.report_judge.specs.Fitting.{OperationFits}
 use Rattle.report_judge.specs.Steps.{IsFirstDifference}
 use Rattle.report_judge.proofs.FittingLemmas.{pairs_below, all_fit, first_disordered, none_of}

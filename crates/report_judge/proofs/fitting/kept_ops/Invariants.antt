@@ -1,4 +1,4 @@
-use Rattle.std.proofs.Common.{◌≡◌, ◌<◌, ◌&&◌, nat_lt, ℕ}
+use Rattle.std.proofs.Common.{◌≡◌, ◌&&◌, nat_lt, ℕ}
 use Rattle.std.specs.FinSet as set
 use Rattle.cpog_defs.specs.Graphs.{keeps}
 use Rattle.report_judge.proofs.fitting.kept_ops.Given as goal

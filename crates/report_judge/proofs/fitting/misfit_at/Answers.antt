@@ -1,4 +1,4 @@
-use Rattle.std.proofs.Common.{◌≡◌, ◌∙◌, List, ap, length, subst, sym, arith, get_or}
+use Rattle.std.proofs.Common.{◌∙◌, List, ap, length, subst, sym, arith, get_or}
 use Rattle.cpog_defs.specs.Encodings.{Encoding}
 use Rattle.cpog_defs.specs.Graphs.{ConditionalGraph}
 use Rattle.cpog_defs.specs.Orders.{Order}

@@ -1,7 +1,5 @@
-use Rattle.std.proofs.Common.{ℕ, List}
 use Rattle.std.specs.Prelude.{length}
 use Rattle.std.proofs.lemmas.Bool.{both_ways}
-use Rattle.report_judge.specs.Good.{Holds}
 use Rattle.report_judge.specs.Known.{printed_lower, SpeaksOf, IsShown}
 use Rattle.report_judge.specs.Parts.{Part}
 use Rattle.report_judge.specs.Reasons.{HoldBelow}

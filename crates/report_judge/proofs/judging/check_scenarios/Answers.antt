@@ -1,6 +1,4 @@
-use Rattle.std.proofs.Common.{◌≡◌, ◌∙◌, List, ap, length, subst, sym, arith}
-use Rattle.cpog_defs.specs.Orders.{Order}
-use Rattle.cpog_defs.specs.Scenarios.{Scenario, AreOrdersOf}
+use Rattle.std.proofs.Common.{ap, length, arith}
 use Rattle.report_judge.proofs.ReportLemmas.{orders_length}
 use Rattle.report_judge.proofs.judging.check_scenarios.Goals as goal
 

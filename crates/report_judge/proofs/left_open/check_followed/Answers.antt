@@ -1,4 +1,4 @@
-use Rattle.std.proofs.Common.{◌≡◌, ◌∙◌, refl, ap, subst, sym}
+use Rattle.std.proofs.Common.{◌∙◌, refl, ap, sym}
 use Rattle.cnf_build.specs.Evidence.{open_of}
 use Rattle.report_judge.proofs.KnownLemmas.{may_ask_open, open_fault}
 use Rattle.report_judge.proofs.left_open.check_followed.Goals as goal

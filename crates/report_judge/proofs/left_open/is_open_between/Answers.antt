@@ -1,4 +1,4 @@
-use Rattle.std.proofs.Common.{◌≡◌, ◌∙◌, ◌<◌, ap, length, arith}
+use Rattle.std.proofs.Common.{◌∙◌, ◌<◌, ap, length, arith}
 use Rattle.cpog_defs.specs.Gates.{GateList}
 use Rattle.cpog_defs.specs.Encodings.{Encoding}
 use Rattle.report_judge.specs.Known.{printed_lower}

@@ -1,4 +1,3 @@
-use Rattle.std.proofs.Common.{rules}
 use Rattle.report_judge.proofs.template.follow.Goals as goal
 
 pub returns : goal.returns
