@@ -55,7 +55,7 @@ none_waits names arcs v u h = absurd (no_both (set.contains no_waits u) (set.con
     no_both true e f = cc
     no_both false e f = cc
 
-requests_rows : (inputs : ℕ) (names : List (List ℕ)) (arcs : List (List Bool)) → AllByRecursion (AllPass continues_name) names → AreDistinct names → IsRows (AreAllWaits names arcs) (requests_lines inputs names (length names)) (requests_at inputs names arcs)
+requests_rows : (inputs : ℕ) (names : List (List ℕ)) (arcs : List (List Bool)) → AllByRecursion (AllPass continues_name) names → AreDistinct names → IsRows (AreAllWaits names arcs) (requests_lines inputs names (length names)) (requests_at names arcs)
 requests_rows inputs names arcs pass distinct =
     rows-same (AreAllWaits names arcs) (requests_lines inputs names (length names))
     (rows-many (λ v _. v + 1) (λ _ _. Unit {0}) (λ n v h. rows-row (request_exact inputs names arcs v pass distinct) (no_waits, none_waits names arcs v)) (λ n v s h fits. tt) (length names) 0 tt)

@@ -100,24 +100,32 @@ is_declared arcs u v = slice_index_or (slice_index_or arcs u []) v false
 
 -- ---- requests
 
-abbrev pub wait_item : ℕ → List (List ℕ) → ℕ → ℕ → List ℕ
-wait_item inputs names v u = codes " & " ++ grouped 3 (tightness (arc_formula v u)) (formula_text inputs names (arc_formula v u))
+-- what the line has for an operation that is waited for
+abbrev pub wait_words : List ℕ → ℕ → ℕ → List ℕ
+wait_words name u v = codes " & (a_" ++ (name ++ (codes " | ~c_" ++ (name ++ (codes " | ~e" ++ (decimal u ++ (codes "_" ++ (decimal v ++ codes ")")))))))
 
-abbrev pub waits_after : ℕ → List (List ℕ) → List (List Bool) → ℕ → List ℕ → Set × List ℕ
-waits_after inputs names arcs v bytes = steps (λ u s. with_wait u s.0 (wait_mark (is_declared arcs u v) (wait_item inputs names v u) s.1)) (length names) 0 (set.empty, bytes)
+abbrev pub wait_item : List (List ℕ) → ℕ → ℕ → List ℕ
+wait_item names v u = wait_words (name_of names u) u v
+
+abbrev pub waits_after : List (List ℕ) → List (List Bool) → ℕ → List ℕ → Set × List ℕ
+waits_after names arcs v bytes = steps (λ u s. with_wait u s.0 (wait_mark (is_declared arcs u v) (wait_item names v u) s.1)) (length names) 0 (set.empty, bytes)
 
 abbrev pub waits_from : Set × List ℕ → Option Set
 waits_from x = if bytes_eq x.1 (codes ";") then Some x.0 else None
 
+-- what stands before them
+abbrev pub front_words : List ℕ → List ℕ
+front_words name = codes "  assign r_" ++ (name ++ (codes " = go & c_" ++ name))
+
 abbrev pub request_front : List (List ℕ) → ℕ → List ℕ
-request_front names v = codes "  assign r_" ++ (name_of names v ++ (codes " = go & c_" ++ name_of names v))
+request_front names v = front_words (name_of names v)
 
 -- the operations that v waits for
-unfoldable pub request_in : ℕ → List (List ℕ) → List (List Bool) → ℕ → List ℕ → Option Set
-request_in inputs names arcs v line = behind (request_front names v) line >>=? λ rest. waits_from (waits_after inputs names arcs v rest)
+unfoldable pub request_in : List (List ℕ) → List (List Bool) → ℕ → List ℕ → Option Set
+request_in names arcs v line = behind (request_front names v) line >>=? λ rest. waits_from (waits_after names arcs v rest)
 
-abbrev pub requests_at : ℕ → List (List ℕ) → List (List Bool) → Position → Result (List Set × Position) ℕ
-requests_at inputs names arcs = many_of (λ v. row (request_in inputs names arcs v)) (λ v _. v + 1) (length names) 0
+abbrev pub requests_at : List (List ℕ) → List (List Bool) → Position → Result (List Set × Position) ℕ
+requests_at names arcs = many_of (λ v. row (request_in names arcs v)) (λ v _. v + 1) (length names) 0
 
 -- ---- the whole
 
@@ -151,7 +159,7 @@ netlist_from inputs x = netlist_of inputs x.0 x.1.0 x.1.1.0 x.1.1.1.0
 unfoldable pub netlist_at : ℕ → List (List ℕ) → ℕ × List (List Bool) → Position → Result (Netlist × Position) ℕ
 netlist_at inputs names d =
     view_of (netlist_from inputs) (then_of (gates_at inputs d.0) (λ _. then_of (conditions_at inputs d.0 names) (λ _.
-    then_of (arcs_at inputs d.0 (is_declared d.1) (length names)) (λ _. then_of (requests_at inputs names d.1) (λ _. ends_at inputs names)))))
+    then_of (arcs_at inputs d.0 (is_declared d.1) (length names)) (λ _. then_of (requests_at names d.1) (λ _. ends_at inputs names)))))
 
 -- a netlist with nothing in it
 abbrev pub no_netlist : ℕ → Netlist

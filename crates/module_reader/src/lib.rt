@@ -6,12 +6,14 @@
 //! `modules_are_rows` says of this that it is exact.
 #![tactic(auto)]
 
+mod ends;
 mod gate;
 mod laws;
 mod lists;
 mod module;
 mod ports;
 mod printed;
+mod requests;
 mod rows;
 mod wires;
 mod words;

@@ -174,7 +174,7 @@ fn arcs_from_rows(
 
 /// A row of the matrix.
 #[tactic(auto, using(crate::proofs::LoopLaws::mapped_at))]
-fn row_at(arcs: &[Vec<bool>], u: u8) -> &[bool]
+pub(crate) fn row_at(arcs: &[Vec<bool>], u: u8) -> &[bool]
     requires { u < length arcs.now }
     ensures { result.now ≡ slice_index_or (map (λ row. row.items) arcs.now) u [] }
 {
