@@ -28,7 +28,8 @@ use Rattle.module_reader.proofs.RowLaws.{rows-same, lines_from_first, Ahead, SoM
 use Rattle.module_reader.proofs.ArcLaws.{AreAllDeclared, matrix_lines, arcs_rows}
 use Rattle.module_reader.proofs.MatrixLaws.{bits_of, fits_length, matrix_is}
 use Rattle.module_reader.proofs.PortLaws.{none_behind}
-use Rattle.module_reader.proofs.WireLaws.{IsWires, wires_line, wires_exact}
+use Rattle.module_reader.specs.Fits.{IsWires}
+use Rattle.module_reader.proofs.WireLaws.{wires_line, wires_exact}
 use Rattle.module_reader.proofs.RequestLaws.{IsWaits, request_line, request_exact}
 
 -- ---- requests
@@ -55,7 +56,7 @@ none_waits names arcs v u h = absurd (no_both (set.contains no_waits u) (set.con
     no_both true e f = cc
     no_both false e f = cc
 
-requests_rows : (inputs : ℕ) (names : List (List ℕ)) (arcs : List (List Bool)) → AllByRecursion (AllPass continues_name) names → AreDistinct names → IsRows (AreAllWaits names arcs) (requests_lines inputs names (length names)) (requests_at names arcs)
+pub requests_rows : (inputs : ℕ) (names : List (List ℕ)) (arcs : List (List Bool)) → AllByRecursion (AllPass continues_name) names → AreDistinct names → IsRows (AreAllWaits names arcs) (requests_lines inputs names (length names)) (requests_at names arcs)
 requests_rows inputs names arcs pass distinct =
     rows-same (AreAllWaits names arcs) (requests_lines inputs names (length names))
     (rows-many (λ v _. v + 1) (λ _ _. Unit {0}) (λ n v h. rows-row (request_exact inputs names arcs v pass distinct) (no_waits, none_waits names arcs v)) (λ n v s h fits. tt) (length names) 0 tt)
@@ -138,7 +139,7 @@ second_of x = x.1
 abbrev pub full_at : ℕ → List (List ℕ) → Position → Result (Netlist × Position) ℕ
 full_at inputs names = view_of second_of (then_of (row (wires_in inputs names)) (netlist_at inputs names))
 
-room_ahead : (inputs count : ℕ) → 1 ≤ inputs → inputs ≤ 8 → count ≤ gate_room inputs → Ahead inputs count 0
+pub room_ahead : (inputs count : ℕ) → 1 ≤ inputs → inputs ≤ 8 → count ≤ gate_room inputs → Ahead inputs count 0
 room_ahead inputs count some few room = step (eqb inputs 1) refl room
   where
     step : (b : Bool) → eqb inputs 1 ≡ b → count ≤ cond b 0 262143 → Ahead inputs count 0
@@ -148,7 +149,7 @@ room_ahead inputs count some few room = step (eqb inputs 1) refl room
         more : eqb inputs 1 ≡ false → 2 ≤ inputs + 0
         more e = omega (arith, some, eqb-false inputs 1 e)
 
-full_made : (inputs : ℕ) (names : List (List ℕ)) (d : ℕ × List (List Bool)) (n : Netlist) → IsWires inputs names d → IsNetlistFor inputs names d n → wires_of n ≡ d
+pub full_made : (inputs : ℕ) (names : List (List ℕ)) (d : ℕ × List (List Bool)) (n : Netlist) → IsWires inputs names d → IsNetlistFor inputs names d n → wires_of n ≡ d
 full_made inputs names d n w h = λ i. (h.1.0.1 i, matrix_is (inputs + d.0) (length names) d.1 n.wires h.1.1.1.0 w.matrix i)
 
 abbrev WiresFit : ℕ → List (List ℕ) → (ℕ × List (List Bool)) × Netlist → Type 0

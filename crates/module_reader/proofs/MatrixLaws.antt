@@ -17,7 +17,8 @@ use Rattle.module_reader.proofs.RowLaws.{below_front}
 use Rattle.module_reader.proofs.PortLaws.{below_same}
 use Rattle.module_reader.proofs.ArcLaws.{map_below, IsDeclared, AreDeclared, AreAllDeclared}
 use Rattle.module_reader.proofs.ListLaws.{walk_text}
-use Rattle.module_reader.proofs.WireLaws.{push, arc_part, NotOwn, IsRow, IsMatrix, row_text, matrix_text}
+use Rattle.module_reader.specs.Fits.{NotOwn, IsRow, IsMatrix}
+use Rattle.module_reader.proofs.WireLaws.{push, arc_part, row_text, matrix_text}
 
 abbrev Wires : Type 0
 Wires = List (List (Option Ref))
@@ -128,3 +129,7 @@ arcs_are inputs names count wires long rows =
     ∙ below_same _ _ count inner
     ∙ ap (each_below (λ u. row_text (0 + u) (get_or (bits_of wires) u []))) (sym total)
     ∙ sym (walk_below push (arc_marks_from count) row_text (IsRow count) [] 0 (bits_of wires))
+
+-- a row for each operation, as long as that
+pub matrix_square : (count : ℕ) (rows : List (List Bool)) → IsMatrix count rows → (length rows ≡ count) × ((u : ℕ) → u < count → length (get_or rows u []) ≡ count)
+matrix_square count rows h = (fits_length (IsRow count) count 0 rows h, λ u lt. fits_length (NotOwn (0 + u)) count 0 (get_or rows u []) (fit_at (IsRow count) [] count 0 rows h u lt))

@@ -33,7 +33,8 @@ use Rattle.module_reader.proofs.ArcLaws.{IsDeclared, AreDeclared, AreAllDeclared
 use Rattle.module_reader.proofs.MatrixLaws.{bits_of, fits_count, fit_at, fits_length}
 use Rattle.module_reader.proofs.MatrixLaws as matrices
 use Rattle.module_reader.proofs.PortLaws.{none_behind, ports_lines, ports_rows}
-use Rattle.module_reader.proofs.WireLaws.{NotOwn, IsRow, IsMatrix, IsWires, wires_line, wires_exact}
+use Rattle.module_reader.specs.Fits.{NotOwn, IsRow, IsMatrix, IsWires}
+use Rattle.module_reader.proofs.WireLaws.{wires_line, wires_exact}
 use Rattle.module_reader.proofs.RequestLaws.{IsWaits}
 use Rattle.module_reader.proofs.BodyLaws.{AreAllWaits, AreGood, IsNetlistFor, wires_of, IsFull, full_lines, full_at, full_rows, second_of, ends_rows, end_lines}
 use Rattle.module_reader.proofs.TextLaws.{body_lines, full_text, empty_text}

@@ -20,7 +20,8 @@ use Rattle.module_reader.proofs.ArcLaws.{matrix_lines, AreDeclared, IsDeclared}
 use Rattle.module_reader.proofs.ListLaws.{items_text, items_joined}
 use Rattle.module_reader.proofs.MatrixLaws.{bits_of, arcs_text, arcs_are, fits_length, fit_at}
 use Rattle.module_reader.proofs.PortLaws.{below_same}
-use Rattle.module_reader.proofs.WireLaws.{wires_line, matrix_text, close, IsWires}
+use Rattle.module_reader.specs.Fits.{IsWires}
+use Rattle.module_reader.proofs.WireLaws.{wires_line, matrix_text, close}
 use Rattle.module_reader.proofs.BodyLaws.{requests_lines, end_lines, parts_lines, parts_of, wires_of, IsFull, full_lines, IsNetlistFor}
 use Rattle.module_reader.specs.Modules.{is_declared}
 

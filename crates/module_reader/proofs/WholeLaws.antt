@@ -1,5 +1,5 @@
 -- A module is read exactly from its rows, and each text has one first bad line.
-use Rattle.std.proofs.Common.{lit<, ◌≡◌, ℕ, zero, suc, ◌<◌, ◌≤◌, ◌+◌, ◌⊎◌, inl, inr, Bool, true, false, cond, eqb, List, [], ◌∷◌, ◌++◌, length, map, get_or, Option, Some, None, IsSome, is_some, Result, Ok, Err, refl, sym, ap, ap₂, subst, ◌∙◌, arith}
+use Rattle.std.proofs.Common.{lit<, ◌≡◌, ℕ, zero, suc, ◌<◌, ◌≤◌, ◌+◌, ◌^◌, ◌⊎◌, inl, inr, Bool, true, false, cond, eqb, List, [], ◌∷◌, ◌++◌, length, map, get_or, Option, Some, None, IsSome, is_some, Result, Ok, Err, refl, sym, ap, ap₂, subst, ◌∙◌, arith}
 use Rattle.std.specs.Prelude.{codes, IsTrue}
 use Rattle.std.specs.List.{AllByRecursion, All}
 use Rattle.std.specs.FinSet as set
@@ -26,14 +26,16 @@ use Rattle.line_rows.specs.Reading.{Fails, whole}
 use Rattle.line_rows.specs.FirstBad as rows
 use Rattle.text_rows.specs.FirstBad.{IsFirstBad, NoneBegins}
 use Rattle.module_reader.specs.Faults.{IsModuleText}
-use Rattle.module_reader.specs.Modules.{is_declared, no_netlist, gate_room, module_from, module_at, IsPorts}
-use Rattle.module_reader.proofs.RowLaws.{SoManyRefs}
-use Rattle.module_reader.proofs.ArcLaws.{IsDeclared, AreDeclared, AreAllDeclared}
+use Rattle.module_reader.specs.Modules.{netlist_of, requests_at, body_at, is_declared, no_netlist, gate_room, module_from, module_at, IsPorts}
+use Rattle.module_reader.specs.Rows.{gates_at, conditions_at, arcs_at}
+use Rattle.line_rows.specs.Position.{Position}
+use Rattle.module_reader.proofs.RowLaws.{SoManyRefs, gates_rows, conditions_rows}
+use Rattle.module_reader.proofs.ArcLaws.{IsDeclared, AreDeclared, AreAllDeclared, arcs_rows}
 use Rattle.module_reader.proofs.MatrixLaws.{bits_of, row_at, declared_at, fits_count, fit_at, fits_length}
 use Rattle.module_reader.proofs.PortLaws.{ports_lines, ports_rows}
-use Rattle.module_reader.proofs.WireLaws.{NotOwn, IsRow, IsMatrix, IsWires}
+use Rattle.module_reader.specs.Fits.{NotOwn, IsRow, IsMatrix, IsWires}
 use Rattle.module_reader.proofs.RequestLaws.{IsWaits}
-use Rattle.module_reader.proofs.BodyLaws.{AreAllWaits, AreGood, IsNetlistFor, wires_of, IsFull}
+use Rattle.module_reader.proofs.BodyLaws.{requests_rows, room_ahead, full_made, AreAllWaits, AreGood, IsNetlistFor, wires_of, IsFull}
 use Rattle.module_reader.proofs.TextLaws.{module_of, body_lines}
 use Rattle.module_reader.proofs.ModuleLaws.{IsBody, body_rows}
 
@@ -213,6 +215,30 @@ module_made inputs (w ∷ ws) n ports full = full_module inputs (w ∷ ws) n por
 module_made inputs [] n ports (inl full) = full_module inputs [] n ports full
 module_made inputs [] n ports (inr small) = subst (λ (x : Netlist). IsModule (module_of [] x) × (x.gates.inputs ≡ inputs)) (sym small) (from_small inputs ports, refl)
 
+-- the parts that were read make a netlist
+pub parts_netlist : (inputs : ℕ) (names : List (List ℕ)) (d : ℕ × List (List Bool)) (p0 p1 p2 p3 p4 : Position) (gates : List Gate) (conditions : List Ref) (wires : List (List (Option Ref))) (waits : List Set) → IsPorts (inputs, names) → IsWires inputs names d
+    → gates_at inputs d.0 p0 ≡ Ok (gates, p1) → conditions_at inputs d.0 names p1 ≡ Ok (conditions, p2) → arcs_at inputs d.0 (is_declared d.1) (length names) p2 ≡ Ok (wires, p3) → requests_at names d.1 p3 ≡ Ok (waits, p4)
+    → IsNetlist (netlist_of inputs gates conditions wires waits)
+parts_netlist inputs names d p0 p1 p2 p3 p4 gates conditions wires waits ports w e1 e2 e3 e4 =
+    let n : Netlist = netlist_of inputs gates conditions wires waits in
+    let good = good_of (inputs, names) ports in
+    let ahead = room_ahead inputs d.0 ports.some ports.few w.few in
+    let small : inputs + d.0 < 2 ^ 32 = omega (arith, ahead.small) in
+    let fits : IsNetlistFor inputs names d n = (refl, (
+      ((gates_rows inputs d.0 names ahead).takes p0 (gates, p1) e1).0,
+      (((conditions_rows inputs d.0 names small).takes p1 (conditions, p2) e2).0,
+      (((arcs_rows inputs d.0 names (is_declared d.1) (length names) small).takes p2 (wires, p3) e3).0,
+      (((requests_rows inputs names d.1 good.pass good.distinct).takes p3 (waits, p4) e4).0, tt))),
+    )) in
+    let same : wires_of n ≡ d = full_made inputs names d n w fits in
+    let full : IsFull inputs names n = subst (λ (x : ℕ × List (List Bool)). IsWires inputs names x → IsNetlistFor inputs names x n → IsFull inputs names n) same (λ a b. record { wires = a; netlist = b }) w fits in
+    (from_full names n ports full).netlist
+
+-- and what was read behind the ports a module
+pub body_module : (inputs : ℕ) (names : List (List ℕ)) (p : Position) (n : Netlist) (q : Position) → IsPorts (inputs, names) → body_at inputs names p ≡ Ok (n, q) → IsModule (module_of names n)
+body_module inputs names p n q ports e =
+    (module_made inputs names n ports ((body_rows inputs names ports.some ports.few (good_of (inputs, names) ports)).takes p (n, q) e).0).0
+
 -- ---- its lines
 
 lines_split : (names : List (List ℕ)) (n : Netlist) → length names ≡ length n.conditions → module_lines (module_of names n) ≡ ports_lines (n.gates.inputs, names) ++ body_lines names n
@@ -258,3 +284,8 @@ is_first lines k given =
 
 pub fault_first : (lines : List (List ℕ)) (e : ReadError) (k : ℕ) → e ≡ errors.BadLine k → Fails e (whole module_at lines) → IsFirstBad IsModuleText lines k
 fault_first lines e k is h = is_first lines k (subst (λ (x : ReadError). Fails x (whole module_at lines)) is h)
+
+-- ---- what the functions below are asked
+
+pub gates_small : (inputs count : ℕ) → count ≤ gate_room inputs → count < 2 ^ 30
+gates_small inputs count h = let lt = room_small inputs count h in omega (arith, lt)

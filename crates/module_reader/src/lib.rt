@@ -6,6 +6,7 @@
 //! `modules_are_rows` says of this that it is exact.
 #![tactic(auto)]
 
+mod assembly;
 mod ends;
 mod gate;
 mod laws;
