@@ -12,7 +12,7 @@ use Rattle.handshake_eqs.specs.Netlists.{Netlist, wire_of, waits_of}
 use Rattle.handshake_eqs.specs.Netlists.{IsNetlist}
 use Rattle.handshake_eqs.proofs.PartLemmas.{zero_netlist, netlist-zero}
 use Rattle.gate_core.proofs.GraphLemmas.{replicate_at, replicate_row_at}
-use Rattle.cpog_defs.specs.Gates.{GateList}
+use Rattle.cpog_defs.specs.Gates.{GateList, IsRefOver, signal_count}
 use Rattle.handshake_eqs.proofs.EncodedLemmas.{insert_next, leave_next, none_below_zero, all_of_below}
 
 -- the first v of these, and then those
@@ -192,3 +192,18 @@ start_wire count u v = replicate_row_at (replicate count None) count u v None (r
 
 pub start_waits : (count v : ℕ) → get_or (replicate count no_waits) v no_waits ≡ no_waits
 start_waits count v = replicate_at count v no_waits
+
+same_default : (cs : List Ref) (v : ℕ) (d e : Ref) → v < length cs → get_or cs v d ≡ get_or cs v e
+same_default [] v d e lt = absurd (omega (arith, lt))
+same_default (c ∷ cs) zero d e lt = refl
+same_default (c ∷ cs) (suc v) d e lt = same_default cs v d e (omega (arith, lt))
+
+pub over_kept : (n m : Netlist) (v : ℕ) (cs : List Ref) (d e : Ref) → m ≡ record n { conditions = mixed v cs n.conditions } → v < length cs → IsRefOver (signal_count n.gates) (get_or cs v e) → IsRefOver (signal_count m.gates) (get_or cs v d)
+over_kept n m v cs d e is lt h = subst (λ (k : Netlist). IsRefOver (signal_count k.gates) (get_or cs v d)) (sym is) (subst (IsRefOver (signal_count n.gates)) (same_default cs v e d lt) h)
+
+-- an arc wire leads from an operation
+pub wired_below : (n : Netlist) → IsNetlist n → (u v : ℕ) → is_some (wire_of n u v) ≡ true → u < length n.conditions
+wired_below n is u v there = elim (cases_lt u (length n.conditions)) [
+  | inl l ↦ l
+  | inr g ↦ absurd (both_ways (is_some (wire_of n u v)) (ap (λ (row : List (Option Ref)). is_some (get_or row v None)) (get_or_past n.wires u [] (omega (arith, is.wires, g)))) there)
+]

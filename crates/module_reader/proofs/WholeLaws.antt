@@ -22,7 +22,7 @@ use Rattle.netlist_verilog.specs.Rows.{joined, signals_from, for_each, module_li
 use Rattle.line_rows.proofs.RowLaws.{IsRows, rows-then, rows-view, FitsMany, whole_found, whole_first_bad}
 use Rattle.line_rows.specs.declared.fault.ReadError.{ReadError}
 use Rattle.line_rows.specs.declared.fault.ReadError.TheVariants as errors
-use Rattle.line_rows.specs.Reading.{Fails, whole}
+use Rattle.line_rows.specs.Reading.{Fails, Gives, whole}
 use Rattle.line_rows.specs.FirstBad as rows
 use Rattle.text_rows.specs.FirstBad.{IsFirstBad, NoneBegins}
 use Rattle.module_reader.specs.Faults.{IsModuleText}
@@ -31,7 +31,7 @@ use Rattle.module_reader.specs.Rows.{gates_at, conditions_at, arcs_at}
 use Rattle.line_rows.specs.Position.{Position}
 use Rattle.module_reader.proofs.RowLaws.{SoManyRefs, gates_rows, conditions_rows}
 use Rattle.module_reader.proofs.ArcLaws.{IsDeclared, AreDeclared, AreAllDeclared, arcs_rows}
-use Rattle.module_reader.proofs.MatrixLaws.{bits_of, row_at, declared_at, fits_count, fit_at, fits_length}
+use Rattle.module_reader.proofs.MatrixLaws.{matrix_square, bits_of, row_at, declared_at, fits_count, fit_at, fits_length}
 use Rattle.module_reader.proofs.PortLaws.{ports_lines, ports_rows}
 use Rattle.module_reader.specs.Fits.{NotOwn, IsRow, IsMatrix, IsWires}
 use Rattle.module_reader.proofs.RequestLaws.{IsWaits}
@@ -289,3 +289,31 @@ fault_first lines e k is h = is_first lines k (subst (λ (x : ReadError). Fails 
 
 pub gates_small : (inputs count : ℕ) → count ≤ gate_room inputs → count < 2 ^ 30
 gates_small inputs count h = let lt = room_small inputs count h in omega (arith, lt)
+
+-- the same, in the words of the function
+pub parts_made : (inputs : ℕ) (names : List (List ℕ)) (d : ℕ × List (List Bool)) (p0 p1 p2 p3 p4 : Position) (g : GateList) (cs cs' : List Ref) (ws ws' : List (List (Option Ref))) (ss ss' : List Set) → IsPorts (inputs, names) → IsWires inputs names d
+    → g.inputs ≡ inputs → cs' ≡ cs → ws' ≡ ws → ss' ≡ ss
+    → gates_at inputs d.0 p0 ≡ Ok (g.gates, p1) → conditions_at inputs d.0 names p1 ≡ Ok (cs, p2) → arcs_at inputs d.0 (is_declared d.1) (length names) p2 ≡ Ok (ws, p3) → requests_at names d.1 p3 ≡ Ok (ss, p4)
+    → IsNetlist (record { gates = g; conditions = cs'; wires = ws'; waits = ss' })
+parts_made inputs names d p0 p1 p2 p3 p4 g cs cs' ws ws' ss ss' ports w ei ec ew es e1 e2 e3 e4 =
+    subst IsNetlist (λ i. record { gates = record { inputs = sym ei i; gates = g.gates }; conditions = sym ec i; wires = sym ew i; waits = sym es i })
+    (parts_netlist inputs names d p0 p1 p2 p3 p4 g.gates cs ws ss ports w e1 e2 e3 e4)
+
+-- ---- what the rows are asked of a matrix
+
+pub record Asked {X : Type 0} (f : X → List Bool) (count : ℕ) (xs : List X) : Type 0 where
+  pub total : length xs ≡ count
+  pub few : length xs ≤ 128
+  pub square : (u : ℕ) → u < length xs → length (get_or (map f xs) u []) ≡ length xs
+
+pub asked : {X : Type 0} (f : X → List Bool) (count : ℕ) (xs ys : List X) → ys ≡ xs → IsMatrix count (map f xs) → count ≤ 128 → Asked f count ys
+asked f count xs ys same m few =
+    let total : length xs ≡ count = sym (length-map xs f) ∙ (matrix_square count (map f xs) m).0 in
+    subst (Asked f count) (sym same) (record {
+      total = total;
+      few = omega (arith, total, few);
+      square = λ u lt. (matrix_square count (map f xs) m).1 u (omega (arith, lt, total)) ∙ sym total;
+    })
+
+pub gives_at : {X Y : Type 0} (view : X → Y) (r : Result X ReadError) (a b : Result Y ℕ) → a ≡ b → Gives view r a → Gives view r b
+gives_at view r a b e h = subst (Gives view r) e h

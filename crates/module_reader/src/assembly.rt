@@ -114,6 +114,14 @@ fn put_waits_of(netlist: &mut Netlist, v: u8, waits: OpSet)
     }
 }
 
+/// The set of an operation.
+fn set_at(waits: &[OpSet], v: u8) -> OpSet
+    requires { v < length waits.now }
+    ensures { result ≡ slice_index_or waits.now v set.empty }
+{
+    waits[v as usize]
+}
+
 /// Lets all operations wait for these.
 fn put_waits(netlist: &mut Netlist, waits: &[OpSet])
     requires few { length waits.now ≤ 128 }
@@ -125,7 +133,7 @@ fn put_waits(netlist: &mut Netlist, waits: &[OpSet])
 {
     let count = waits.len() as u8;
     for v in 0..count {
-        put_waits_of(netlist, v, waits[v as usize]);
+        put_waits_of(netlist, v, set_at(waits, v));
     }
 }
 

@@ -1,11 +1,12 @@
 //! A module is read, in a longer text or as a whole one.
-ghost use Rattle.std.specs.Prelude.{◌≡◌, ◌≤◌, ◌<◌, ◌^◌, IfOk, IfErr, length};
+ghost use Rattle.std.specs.Prelude.{◌≡◌, ◌≤◌, ◌<◌, ◌^◌, IfOk, IfErr, length, map};
 ghost use Rattle.cpog_base.specs.declared.limits.TheConstants.{BIT_LIMIT};
 ghost use Rattle.line_text.specs.Lines.{lines_of};
 ghost use Rattle.netlist_verilog.specs.Rows.{module_lines};
 ghost use Rattle.line_rows.specs.Reading.{Gives, whole};
 ghost use Rattle.module_reader.specs.Fits.{IsWires};
 ghost use Rattle.module_reader.specs.Modules.{IsPorts, netlist_at, no_netlist, declared_at, undeclared_at, body_at, module_at};
+ghost use Rattle.module_reader.specs.Rows.{arcs_at};
 ghost use Rattle.module_reader.specs.Modules as modules;
 ghost use Rattle.module_reader.specs.Values.{ports_value, declared_value};
 ghost use Rattle.module_reader.specs.Faults.{IsFaultOf};
@@ -17,8 +18,8 @@ use crate::printed::done_line;
 use crate::requests::requests_rows;
 use crate::rows::{arcs_rows, conditions_rows, gates_rows};
 use crate::wires::{Declared, wires_of};
-use cpog_base::{Memory, Names};
-use gate_core::GateList;
+use cpog_base::{Memory, Names, OpSet};
+use gate_core::{GateList, Ref};
 use handshake_eqs::Netlist;
 use line_rows::{Cursor, ReadError, behind};
 use netlist_verilog::Module;
@@ -30,6 +31,34 @@ pub enum ModuleFault {
     /// The number of the first bad line.
     BadLine(u32),
     Memory,
+}
+
+/// The arc wires, a line for each that was declared.
+fn wires_rows(
+    alloc: Global,
+    cursor: &mut Cursor<'_>,
+    ports: &Ports,
+    declared: &Declared,
+) -> Result<Vec<Vec<Option<Ref>>>, ReadError>
+    requires ports { IsPorts (ports_value ports.now) }
+    requires wires { IsWires ports.now.inputs ports.now.names (declared_value declared.now) }
+    ensures { Gives (λ rows. (map (λ row. row.items) rows.items, cursor.new)) result (arcs_at ports.now.inputs declared.now.gates (modules.is_declared (map (λ row. row.items) declared.now.arcs.items)) (length ports.now.names) cursor.old) }
+{
+    arcs_rows(alloc, cursor, ports.inputs, declared.gates, &declared.arcs)
+}
+
+/// The requests, where the arc wires were declared so.
+fn waits_rows(
+    alloc: Global,
+    cursor: &mut Cursor<'_>,
+    ports: &Ports,
+    declared: &Declared,
+) -> Result<Vec<OpSet>, ReadError>
+    requires ports { IsPorts (ports_value ports.now) }
+    requires wires { IsWires ports.now.inputs ports.now.names (declared_value declared.now) }
+    ensures { Gives (λ sets. (sets.items, cursor.new)) result (modules.requests_at ports.now.names (map (λ row. row.items) declared.now.arcs.items) cursor.old) }
+{
+    requests_rows(alloc, cursor, &ports.names, &declared.arcs)
 }
 
 /// The netlist, where the inner wires were declared so.
@@ -47,8 +76,8 @@ fn netlist_rows(
     let inputs = ports.inputs;
     let gates = gates_rows(alloc, cursor, inputs, declared.gates)?;
     let conditions = conditions_rows(alloc, cursor, inputs, declared.gates, &ports.names)?;
-    let wires = arcs_rows(alloc, cursor, inputs, declared.gates, &declared.arcs)?;
-    let waits = requests_rows(alloc, cursor, &ports.names, &declared.arcs)?;
+    let wires = wires_rows(alloc, cursor, ports, declared)?;
+    let waits = waits_rows(alloc, cursor, ports, declared)?;
     ends_rows(alloc, cursor, ports)?;
     let Ok(netlist) = netlist_of(alloc, gates, &conditions, &wires, &waits) else {
         return Err(ReadError::Memory);
@@ -122,7 +151,7 @@ fn body_rows(
     ports: &Ports,
 ) -> Result<Netlist, ReadError>
     requires { IsPorts (ports_value ports.now) }
-    ensures read { Gives (λ n. (n, cursor.new)) result (body_at ports.now.inputs ports.now.names cursor.old) }
+    ensures { Gives (λ n. (n, cursor.new)) result (body_at ports.now.inputs ports.now.names cursor.old) }
 {
     let line = cursor.line()?;
     if declares(&ports.names, line) {

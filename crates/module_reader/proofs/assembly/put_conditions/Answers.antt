@@ -1,7 +1,7 @@
-use Rattle.std.proofs.Common.{◌≡◌, ℕ, ◌<◌, length, subst, sym, arith, ◌∙◌}
-use Rattle.cpog_defs.specs.Gates.{signal_count, IsRefOver}
+use Rattle.std.proofs.Common.{◌≡◌, ℕ, ◌<◌, false, length, subst, sym, arith, ◌∙◌}
+use Rattle.cpog_defs.specs.declared.types.Ref.TheVariants.{Const}
 use Rattle.handshake_eqs.specs.Netlists.{Netlist}
-use Rattle.module_reader.proofs.AssemblyLaws.{mixed, mixed_length, condition_step, conditions_done}
+use Rattle.module_reader.proofs.AssemblyLaws.{mixed, mixed_length, condition_step, conditions_done, over_kept}
 use Rattle.module_reader.proofs.assembly.put_conditions.Goals as goal
 
 pub set_condition-requires-clause-below : goal.set_condition-requires-clause-below
@@ -9,7 +9,7 @@ set_condition-requires-clause-below c =
     subst (λ (k : Netlist). c.loop-v.v < length k.conditions) (sym c.loop-v.invariant) (omega (arith, mixed_length c.loop-v.v c.args.conditions.now c.args.netlist.now.conditions, c.loop-v-test.true, c.requires.long))
 
 pub set_condition-requires-clause-over : goal.set_condition-requires-clause-over
-set_condition-requires-clause-over c = subst (λ (k : Netlist). IsRefOver (signal_count k.gates) _) (sym c.loop-v.invariant) (c.requires.over c.loop-v.v)
+set_condition-requires-clause-over c = over_kept c.args.netlist.now c.loop-v.netlist c.loop-v.v c.args.conditions.now _ (Const false) c.loop-v.invariant (omega (arith, c.loop-v-test.true)) (c.requires.over c.loop-v.v)
 
 pub loop-v-preserved : goal.loop-v-preserved
 loop-v-preserved c = c.set_condition.ensures ∙ condition_step c.args.netlist.now c.loop-v.netlist c.loop-v.v c.args.conditions.now _ c.loop-v.invariant (omega (arith, c.loop-v-test.true)) c.requires.long

@@ -1,5 +1,6 @@
-use Rattle.std.proofs.Common.{◌≡◌, ℕ, ◌<◌, ◌≤◌, length, subst, sym, ap, arith, ◌∙◌, true, IsSome, slice_index_or}
+use Rattle.std.proofs.Common.{◌≡◌, ℕ, ◌<◌, ◌≤◌, length, subst, sym, ap, arith, ◌∙◌, true, IsSome, slice_index_or, slice_set}
 use Rattle.std.specs.FinSet as set
+use Rattle.cpog_defs.specs.Orders.{Set}
 use Rattle.handshake_eqs.specs.Netlists.{Netlist, wire_of}
 use Rattle.module_reader.proofs.AssemblyLaws.{waits_step, waits_done, sets_later, places_later}
 use Rattle.module_reader.proofs.assembly.put_waits.Goals as goal
@@ -18,10 +19,14 @@ put_waits_of-requires-clause-none c = sets_later c.args.netlist.now c.loop-v.net
 
 pub put_waits_of-requires-clause-declared : goal.put_waits_of-requires-clause-declared
 put_waits_of-requires-clause-declared c = λ u there.
-    subst (λ (k : Netlist). (u < length k.conditions) × IsSome (wire_of k u c.loop-v.v)) (sym c.loop-v.invariant) (c.requires.declared u c.loop-v.v there)
+    subst (λ (k : Netlist). (u < length k.conditions) × IsSome (wire_of k u c.loop-v.v)) (sym c.loop-v.invariant) (c.requires.declared u c.loop-v.v (ap (λ (s : Set). set.contains s u) (sym c.set_at.ensures) ∙ there))
 
 pub loop-v-preserved : goal.loop-v-preserved
-loop-v-preserved c = c.put_waits_of.ensures ∙ waits_step c.args.netlist.now c.loop-v.netlist c.loop-v.v c.args.waits.now c.loop-v.invariant (omega (arith, c.loop-v-test.true)) (c.requires.long ∙ sym c.requires.places)
+loop-v-preserved c =
+    let m : Netlist = c.loop-v.netlist in
+    c.put_waits_of.ensures
+    ∙ ap (λ (s : Set). record m { waits = slice_set m.waits c.loop-v.v s }) c.set_at.ensures
+    ∙ waits_step c.args.netlist.now m c.loop-v.v c.args.waits.now c.loop-v.invariant (omega (arith, c.loop-v-test.true)) (c.requires.long ∙ sym c.requires.places)
 
 pub returns : goal.returns
 returns c = waits_done c.args.netlist.now c.loop-v.netlist c.loop-v.v c.args.waits.now c.loop-v.invariant (omega (arith, c.loop-v-test.false, c.loop-v.auto.v-end)) (c.requires.long ∙ sym c.requires.places)
