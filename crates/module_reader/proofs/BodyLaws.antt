@@ -1,33 +1,25 @@
 -- The rows of a netlist, from its gates to the last line, and with the line of its wires before them.
-use Rattle.std.proofs.Common.{◌≡◌, ℕ, zero, suc, ◌<◌, ◌≤◌, ◌+◌, ◌^◌, ◌⊎◌, inl, inr, Bool, true, false, cond, ◌&&◌, ◌||◌, eqb, ltb, List, [], ◌∷◌, ◌++◌, length, map, get_or, Option, Some, None, is_some, Result, Ok, Err, refl, sym, ap, ap₂, subst, ◌∙◌, arith, append_assoc}
+use Rattle.std.proofs.Common.{◌≡◌, ℕ, ◌<◌, ◌≤◌, ◌+◌, ◌^◌, Bool, true, false, cond, eqb, List, [], ◌∷◌, ◌++◌, length, map, get_or, Result, refl, sym, ap, subst, ◌∙◌, arith}
 use Rattle.std.specs.Prelude.{codes}
 use Rattle.std.specs.List.{AllByRecursion}
 use Rattle.std.specs.FinSet as set
 use Rattle.std.specs.Ordering.{nat_cmp}
-use Rattle.std.proofs.lemmas.Bool.{lt-ltb, eqb-false}
+use Rattle.std.proofs.lemmas.Bool.{eqb-false}
 use Rattle.cpog_base.specs.Names.{AreDistinct}
-use Rattle.cpog_defs.specs.declared.types.Gate.{Gate}
-use Rattle.cpog_defs.specs.declared.types.Ref.{Ref}
 use Rattle.cpog_defs.specs.Orders.{Set, each_below}
 use Rattle.handshake_eqs.specs.Netlists.{Netlist}
 use Rattle.line_text.specs.Words.{continues_name}
-use Rattle.line_text.proofs.TellingLemmas.{AllPass, heads, tails}
+use Rattle.line_text.proofs.TellingLemmas.{AllPass}
 use Rattle.netlist_verilog.specs.Formulas.{equation_row}
 use Rattle.netlist_verilog.proofs.BelowLemmas.{map_ones}
 use Rattle.netlist_verilog.proofs.RequestRowLemmas.{request_of}
 use Rattle.line_rows.specs.Position.{Position}
-use Rattle.line_rows.specs.Reading.{◌>>=◌, row, line_at, read_or_fault, exactly, then_of, view_of, many_of, lines_many}
-use Rattle.line_rows.specs.Either.{fork, either_of}
-use Rattle.line_rows.specs.Words.{behind}
-use Rattle.line_rows.proofs.Exact.{behind_again}
-use Rattle.line_rows.proofs.EitherLaws.{Begun, rows-either}
-use Rattle.line_rows.proofs.RowLaws.{at, IsRows, rows-row, rows-then, rows-view, rows-many, exact-exactly, FitsMany}
-use Rattle.module_reader.specs.Rows.{gates_at, conditions_at, arcs_at}
-use Rattle.module_reader.specs.Modules.{request_in, requests_at, done_line, idle_line, nothing, last_at, ends_at, netlist_of, Parts, netlist_from, netlist_at, no_netlist, declared_at, undeclared_at, declares, body_from, body_at, is_declared, wires_in, gate_room}
+use Rattle.line_rows.specs.Reading.{row, then_of, view_of, lines_many}
+use Rattle.line_rows.proofs.RowLaws.{IsRows, rows-row, rows-then, rows-view, rows-many, exact-exactly, FitsMany}
+use Rattle.module_reader.specs.Modules.{requests_at, done_line, idle_line, nothing, last_at, ends_at, netlist_of, Parts, netlist_from, netlist_at, is_declared, wires_in, gate_room}
 use Rattle.module_reader.proofs.RowLaws.{rows-same, lines_from_first, Ahead, SoManyGates, gates_lines, gates_rows, SoManyRefs, conditions_lines, conditions_rows}
 use Rattle.module_reader.proofs.ArcLaws.{AreAllDeclared, matrix_lines, arcs_rows}
 use Rattle.module_reader.proofs.MatrixLaws.{bits_of, fits_length, matrix_is}
-use Rattle.module_reader.proofs.PortLaws.{none_behind}
 use Rattle.module_reader.specs.Fits.{IsWires}
 use Rattle.module_reader.proofs.WireLaws.{wires_line, wires_exact}
 use Rattle.module_reader.proofs.RequestLaws.{IsWaits, request_line, request_exact}
@@ -117,7 +109,7 @@ netlist_rows inputs names d ahead good =
     let small : inputs + d.0 < 2 ^ 32 = omega (arith, ahead.small) in
     rows-view (netlist_from inputs) (IsNetlistFor inputs names d) (λ n. parts_lines inputs names (parts_of n))
     (rows-then (gates_rows inputs d.0 names ahead) (λ _ _. rows-then (conditions_rows inputs d.0 names small) (λ _ _.
-        rows-then (arcs_rows inputs d.0 names (is_declared d.1) (length names) small) (λ _ _. rows-then (requests_rows inputs names d.1 good.pass good.distinct) (λ _ _. ends_rows inputs names)))))
+    rows-then (arcs_rows inputs d.0 names (is_declared d.1) (length names) small) (λ _ _. rows-then (requests_rows inputs names d.1 good.pass good.distinct) (λ _ _. ends_rows inputs names)))))
     (λ n h. (parts_of n, h.1, refl, ap (with_inputs n) (sym h.0)))
     (λ x h. ((refl, h), refl))
 
@@ -164,6 +156,7 @@ full_rows inputs names some few good witness =
     (rows-then (rows-row (wires_exact inputs names good.few) witness) (λ d w. netlist_rows inputs names d (room_ahead inputs d.0 some few w.few) good))
     (λ n h. ((wires_of n, n), (h.wires, h.netlist), refl, refl))
     (λ x h.
-        let same : wires_of x.1 ≡ x.0 = full_made inputs names x.0 x.1 h.0 h.1 in
-        (subst (λ (d : ℕ × List (List Bool)). IsWires inputs names d → IsNetlistFor inputs names d x.1 → IsFull inputs names x.1) same (λ w n. record { wires = w; netlist = n }) h.0 h.1,
-         ap (λ (d : ℕ × List (List Bool)). wires_line names d ∷ parts_lines inputs names (parts_of x.1)) same))
+    let same : wires_of x.1 ≡ x.0 = full_made inputs names x.0 x.1 h.0 h.1 in (
+      subst (λ (d : ℕ × List (List Bool)). IsWires inputs names d → IsNetlistFor inputs names d x.1 → IsFull inputs names x.1) same (λ w n. record { wires = w; netlist = n }) h.0 h.1,
+      ap (λ (d : ℕ × List (List Bool)). wires_line names d ∷ parts_lines inputs names (parts_of x.1)) same,
+    ))

@@ -1,6 +1,5 @@
 -- Rows of a matrix, as loops read them.
-use Rattle.std.proofs.Common.{◌≡◌, ℕ, zero, suc, ◌<◌, ◌+◌, Bool, false, List, [], ◌∷◌, length, map, get_or, Option, Some, Result, refl, ap, ◌∙◌, arith}
-use Rattle.cpog_defs.specs.declared.types.Ref.{Ref}
+use Rattle.std.proofs.Common.{◌≡◌, ℕ, zero, suc, ◌<◌, ◌+◌, Bool, false, List, [], ◌∷◌, length, map, get_or, refl, ap, ◌∙◌, arith}
 use Rattle.line_rows.specs.Position.{Position}
 use Rattle.line_rows.specs.Reading.{many_of}
 use Rattle.module_reader.specs.Rows.{arc_at, arcs_from_at}

@@ -1,17 +1,15 @@
 -- Arc wires that are declared, as a matrix of bits and as the wires of a netlist.
-use Rattle.std.proofs.Common.{◌≡◌, ℕ, zero, suc, ◌<◌, ◌≤◌, ◌+◌, inl, inr, Bool, true, false, cond, eqb, List, [], ◌∷◌, ◌++◌, length, map, get_or, Option, Some, None, IsSome, is_some, refl, sym, ap, ap₂, subst, ◌∙◌, arith, append_assoc}
+use Rattle.std.proofs.Common.{◌≡◌, ℕ, zero, suc, ◌<◌, ◌+◌, Bool, false, List, [], ◌∷◌, ◌++◌, length, map, get_or, Option, Some, None, is_some, refl, sym, ap, ap₂, subst, ◌∙◌, arith}
 use Rattle.std.specs.Prelude.{codes}
 use Rattle.std.specs.Fmt.{decimal}
-use Rattle.std.proofs.lemmas.Bool.{cases_lt, cases_Bool, both_ways, eqb-true, eq-eqb}
-use Rattle.std.proofs.lemmas.List.{append-nil, length-map, get_or_past}
+use Rattle.std.proofs.lemmas.List.{append-nil, length-map}
 use Rattle.cpog_defs.specs.declared.types.Ref.{Ref}
 use Rattle.cpog_defs.specs.Orders.{each_below}
-use Rattle.handshake_eqs.specs.Netlists.{IsWireOver}
-use Rattle.netlist_verilog.specs.Wires.{Wire, ArcCondition, wire_text}
-use Rattle.netlist_verilog.specs.Rows.{separator, joined, arc_wire}
+use Rattle.netlist_verilog.specs.Wires.{Wire, wire_text}
+use Rattle.netlist_verilog.specs.Rows.{joined, arc_wire}
 use Rattle.netlist_verilog.proofs.WritingLemmas.{joined_append}
 use Rattle.line_rows.proofs.RowLaws.{FitsMany}
-use Rattle.module_reader.specs.Lists.{arc_item, arc_mark, arc_marks_from}
+use Rattle.module_reader.specs.Lists.{arc_mark, arc_marks_from}
 use Rattle.module_reader.specs.Modules.{is_declared}
 use Rattle.module_reader.proofs.RowLaws.{below_front}
 use Rattle.module_reader.proofs.PortLaws.{below_same}

@@ -8,15 +8,15 @@ use Rattle.std.specs.Ordering.{nat_cmp}
 use Rattle.std.specs.Cmp.{nat_cmp_total, unsigned_tied}
 use Rattle.std.specs.FinSet as set
 use Rattle.std.specs.FinSet.{nat_cmp-IsAntisymmetric}
-use Rattle.std.proofs.lemmas.Bool.{cases_Bool, cases_lt, both_ways, ne_eqb, eq-eqb}
+use Rattle.std.proofs.lemmas.Bool.{cases_Bool, cases_lt, ne_eqb, eq-eqb}
 use Rattle.std.proofs.lemmas.List.{append_cancel_left, get_or_past}
 use Rattle.std.proofs.lemmas.Slice.Eq.{bytes_eq-Decides}
 use Rattle.cpog_base.specs.Names.{AreDistinct}
 use Rattle.cpog_defs.specs.Orders.{Set, each_below}
 use Rattle.line_text.specs.Words.{continues_name}
 use Rattle.line_text.proofs.TellingLemmas.{AllPass, word_told, heads}
-use Rattle.netlist_verilog.specs.Wires.{Go, Request, Condition, ArcCondition, name_of, wire_text}
-use Rattle.netlist_verilog.specs.Formulas.{Read, And, Equation, formula_text, equation_row}
+use Rattle.netlist_verilog.specs.Wires.{Go, Condition, name_of}
+use Rattle.netlist_verilog.specs.Formulas.{Read, And, equation_row}
 use Rattle.netlist_verilog.specs.Equations.{arc_formula}
 use Rattle.netlist_verilog.specs.Module.{ModuleValue}
 use Rattle.netlist_verilog.specs.Rows.{and_text}
@@ -25,12 +25,12 @@ use Rattle.netlist_verilog.proofs.WordLemmas.{name_is}
 use Rattle.netlist_verilog.proofs.WritingLemmas.{each_text}
 use Rattle.netlist_verilog.proofs.RequestRowLemmas.{request_of}
 use Rattle.line_rows.specs.Words.{◌>>=?◌, behind}
-use Rattle.line_rows.proofs.Exact.{IsExact, behind_again, behind_takes, some_of, tested, same_bytes}
+use Rattle.line_rows.proofs.Exact.{IsExact, behind_again, behind_takes, some_of, tested}
 use Rattle.line_rows.proofs.RowLaws.{FitsMany}
 use Rattle.module_reader.specs.Lists.{next_or, steps, wait_mark, with_wait}
 use Rattle.module_reader.specs.Modules.{wait_item, waits_after, waits_from, request_front, request_in, is_declared, no_netlist}
 use Rattle.module_reader.proofs.RowLaws.{below_front}
-use Rattle.module_reader.proofs.ListLaws.{puts, walk_text, IsWalk, walk_takes, Again, walk_again}
+use Rattle.module_reader.proofs.ListLaws.{puts, walk_text, walk_takes, Again, walk_again}
 
 -- ---- sets of numbers by their bits
 
@@ -253,8 +253,7 @@ module _ (inputs : ℕ) (names : List (List ℕ)) (v : ℕ) (declared : ℕ → 
       let same : s ≡ with_bits 0 no_waits w.items = w.made ∙ all_bits 0 no_waits w.items in
       let f = fits_at (length names) 0 w.items w.fits in
       let has : (k : ℕ) → set.contains s k ≡ get_or w.items k false = λ k. ap (λ (x : Set). set.contains x k) same ∙ from_bits w.items k in
-      let bits : bits_of s (length names) 0 ≡ w.items = ap (λ (n : ℕ). bits_of s n 0) (sym f.0) ∙ are_bits s w.items 0 (λ k lt. sym (has k) ∙ ap (set.contains s) (omega arith)) in
-      (
+      let bits : bits_of s (length names) 0 ≡ w.items = ap (λ (n : ℕ). bits_of s n 0) (sym f.0) ∙ are_bits s w.items 0 (λ k lt. sym (has k) ∙ ap (set.contains s) (omega arith)) in (
         λ u h. let x = f.1 u (sym (has u) ∙ h) in (x.0, ap declared (omega arith) ∙ x.1),
         w.whole ∙ ap (λ (bs : List Bool). bits_text 0 bs ++ (after bytes).1) (sym bits),
       )

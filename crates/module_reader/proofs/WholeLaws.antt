@@ -1,7 +1,7 @@
 -- A module is read exactly from its rows, and each text has one first bad line.
-use Rattle.std.proofs.Common.{lit<, ◌≡◌, ℕ, zero, suc, ◌<◌, ◌≤◌, ◌+◌, ◌^◌, ◌⊎◌, inl, inr, Bool, true, false, cond, eqb, List, [], ◌∷◌, ◌++◌, length, map, get_or, Option, Some, None, IsSome, is_some, Result, Ok, Err, refl, sym, ap, ap₂, subst, ◌∙◌, arith}
+use Rattle.std.proofs.Common.{◌≡◌, ℕ, ◌<◌, ◌≤◌, ◌+◌, ◌^◌, ◌⊎◌, inl, inr, Bool, true, false, cond, eqb, List, [], ◌∷◌, ◌++◌, length, map, get_or, Option, Some, None, is_some, Result, Ok, Err, refl, sym, ap, ap₂, subst, ◌∙◌, arith}
 use Rattle.std.specs.Prelude.{codes, IsTrue}
-use Rattle.std.specs.List.{AllByRecursion, All}
+use Rattle.std.specs.List.{AllByRecursion}
 use Rattle.std.specs.FinSet as set
 use Rattle.std.specs.Ordering.{nat_cmp}
 use Rattle.std.proofs.lemmas.Bool.{cases_Bool, cases_lt, both_ways, eqb-true, eq-eqb}
@@ -9,17 +9,17 @@ use Rattle.std.proofs.lemmas.List.{get_or_past, length-map}
 use Rattle.std.proofs.lemmas.List.Elements.{All-from_recursion, recursion_from_All, All-get_or, All-from_get_or}
 use Rattle.cpog_defs.specs.declared.types.Gate.{Gate}
 use Rattle.cpog_defs.specs.declared.types.Ref.{Ref}
-use Rattle.cpog_defs.specs.declared.types.Ref.TheVariants.{Const, Signal}
+use Rattle.cpog_defs.specs.declared.types.Ref.TheVariants.{Const}
 use Rattle.cpog_defs.specs.Orders.{Set}
-use Rattle.cpog_defs.specs.Gates.{GateList, AreGatesFrom, IsRefOver, signal_count}
+use Rattle.cpog_defs.specs.Gates.{GateList, AreGatesFrom, IsRefOver}
 use Rattle.handshake_eqs.specs.Netlists.{Netlist, IsNetlist, IsWireOver, condition_of, wire_of, waits_of}
 use Rattle.handshake_eqs.proofs.PartLemmas.{netlist-zero}
 use Rattle.line_text.specs.Words.{is_free_name, continues_name}
 use Rattle.line_text.proofs.TellingLemmas.{AllPass, free_name_passes}
 use Rattle.netlist_verilog.specs.Wires.{Go, Acknowledge, Request, Done, Idle, wire_text}
-use Rattle.netlist_verilog.specs.Module.{ModuleValue, IsModule, AreNames}
+use Rattle.netlist_verilog.specs.Module.{ModuleValue, IsModule}
 use Rattle.netlist_verilog.specs.Rows.{joined, signals_from, for_each, module_lines}
-use Rattle.line_rows.proofs.RowLaws.{IsRows, rows-then, rows-view, FitsMany, whole_found, whole_first_bad}
+use Rattle.line_rows.proofs.RowLaws.{IsRows, rows-then, rows-view, whole_found, whole_first_bad}
 use Rattle.line_rows.specs.declared.fault.ReadError.{ReadError}
 use Rattle.line_rows.specs.declared.fault.ReadError.TheVariants as errors
 use Rattle.line_rows.specs.Reading.{Fails, Gives, whole}
@@ -29,13 +29,13 @@ use Rattle.module_reader.specs.Faults.{IsModuleText}
 use Rattle.module_reader.specs.Modules.{netlist_of, requests_at, body_at, is_declared, no_netlist, gate_room, module_from, module_at, IsPorts}
 use Rattle.module_reader.specs.Rows.{gates_at, conditions_at, arcs_at}
 use Rattle.line_rows.specs.Position.{Position}
-use Rattle.module_reader.proofs.RowLaws.{SoManyRefs, gates_rows, conditions_rows}
-use Rattle.module_reader.proofs.ArcLaws.{IsDeclared, AreDeclared, AreAllDeclared, arcs_rows}
+use Rattle.module_reader.proofs.RowLaws.{gates_rows, conditions_rows}
+use Rattle.module_reader.proofs.ArcLaws.{IsDeclared, AreDeclared, arcs_rows}
 use Rattle.module_reader.proofs.MatrixLaws.{matrix_square, bits_of, row_at, declared_at, fits_count, fit_at, fits_length}
 use Rattle.module_reader.proofs.PortLaws.{ports_lines, ports_rows}
 use Rattle.module_reader.specs.Fits.{NotOwn, IsRow, IsMatrix, IsWires}
 use Rattle.module_reader.proofs.RequestLaws.{IsWaits}
-use Rattle.module_reader.proofs.BodyLaws.{requests_rows, room_ahead, full_made, AreAllWaits, AreGood, IsNetlistFor, wires_of, IsFull}
+use Rattle.module_reader.proofs.BodyLaws.{requests_rows, room_ahead, full_made, AreGood, IsNetlistFor, wires_of, IsFull}
 use Rattle.module_reader.proofs.TextLaws.{module_of, body_lines}
 use Rattle.module_reader.proofs.ModuleLaws.{IsBody, body_rows}
 
@@ -92,8 +92,7 @@ full_of names n is some =
     let wired : (u : ℕ) → u < count → AreDeclared signals (is_declared bits) count (0 + u) (get_or n.wires u []) = λ u lt.
     fits_count (λ v w. IsDeclared signals (is_declared bits (0 + u) v) w) None count 0 (get_or n.wires u []) (size u lt) (λ v lv. (sym (bit u v), net.wires_over u v)) in
     let waits : (v : ℕ) → v < count → IsWaits names bits (0 + v) (get_or n.waits v set.empty) = λ v lv u h.
-    let there : is_some (wire_of n u v) ≡ true = net.declared u v h in
-    (
+    let there : is_some (wire_of n u v) ≡ true = net.declared u v h in (
       elim (cases_lt u count) [ inl l ↦ l | inr g ↦ absurd (both_ways (is_some (wire_of n u v)) (ap is_some (none_past n net u v (omega (arith, g, is.one_name_each)))) there) ],
       ap (is_declared bits u) (omega arith) ∙ declared_at n.wires u v ∙ there,
     ) in
@@ -103,10 +102,19 @@ full_of names n is some =
         matrix = fits_count (IsRow count) [] count 0 bits (length-map n.wires (λ row. map is_some row) ∙ long) row;
         some = some;
       };
-      netlist = (refl, ((is.gates, refl), ((conditions, sym is.one_name_each), (
-        fits_count (λ u ws. AreDeclared signals (is_declared bits) count u ws) [] count 0 n.wires long wired,
-        (fits_count (IsWaits names bits) set.empty count 0 n.waits (net.waits ∙ sym is.one_name_each) waits, tt),
-      ))));
+      netlist = (
+        refl,
+        (
+          (is.gates, refl),
+          (
+            (conditions, sym is.one_name_each),
+            (
+              fits_count (λ u ws. AreDeclared signals (is_declared bits) count u ws) [] count 0 n.wires long wired,
+              (fits_count (IsWaits names bits) set.empty count 0 n.waits (net.waits ∙ sym is.one_name_each) waits, tt),
+            ),
+          ),
+        ),
+      );
     }
 
 nil_is : {A : Type 0} (xs : List A) → length xs ≡ 0 → xs ≡ []
@@ -224,12 +232,19 @@ parts_netlist inputs names d p0 p1 p2 p3 p4 gates conditions wires waits ports w
     let good = good_of (inputs, names) ports in
     let ahead = room_ahead inputs d.0 ports.some ports.few w.few in
     let small : inputs + d.0 < 2 ^ 32 = omega (arith, ahead.small) in
-    let fits : IsNetlistFor inputs names d n = (refl, (
-      ((gates_rows inputs d.0 names ahead).takes p0 (gates, p1) e1).0,
-      (((conditions_rows inputs d.0 names small).takes p1 (conditions, p2) e2).0,
-      (((arcs_rows inputs d.0 names (is_declared d.1) (length names) small).takes p2 (wires, p3) e3).0,
-      (((requests_rows inputs names d.1 good.pass good.distinct).takes p3 (waits, p4) e4).0, tt))),
-    )) in
+    let fits : IsNetlistFor inputs names d n = (
+      refl,
+      (
+        ((gates_rows inputs d.0 names ahead).takes p0 (gates, p1) e1).0,
+        (
+          ((conditions_rows inputs d.0 names small).takes p1 (conditions, p2) e2).0,
+          (
+            ((arcs_rows inputs d.0 names (is_declared d.1) (length names) small).takes p2 (wires, p3) e3).0,
+            (((requests_rows inputs names d.1 good.pass good.distinct).takes p3 (waits, p4) e4).0, tt),
+          ),
+        ),
+      ),
+    ) in
     let same : wires_of n ≡ d = full_made inputs names d n w fits in
     let full : IsFull inputs names n = subst (λ (x : ℕ × List (List Bool)). IsWires inputs names x → IsNetlistFor inputs names x n → IsFull inputs names n) same (λ a b. record { wires = a; netlist = b }) w fits in
     (from_full names n ports full).netlist
@@ -265,8 +280,8 @@ module_law =
     rows-view module_from IsModule module_lines (rows-then ports_rows (λ h fits. body_rows h.0 h.1 fits.some fits.few (good_of h fits)))
     (λ m is. (((m.netlist.gates.inputs, m.names), m.netlist), (ports_of m.names m.netlist is, body_of m.names m.netlist is), lines_split m.names m.netlist is.one_name_each, refl))
     (λ x fits.
-        let made = module_made x.0.0 x.0.1 x.1 fits.0 fits.1 in
-        (made.0, lines_split x.0.1 x.1 made.0.one_name_each ∙ ap (λ (k : ℕ). ports_lines (k, x.0.1) ++ body_lines x.0.1 x.1) made.1))
+    let made = module_made x.0.0 x.0.1 x.1 fits.0 fits.1 in
+    (made.0, lines_split x.0.1 x.1 made.0.one_name_each ∙ ap (λ (k : ℕ). ports_lines (k, x.0.1) ++ body_lines x.0.1 x.1) made.1))
 
 -- ---- a whole text
 

@@ -1,19 +1,17 @@
 -- The line of the inner wires is read exactly.
-use Rattle.std.proofs.Common.{lit<, ◌≡◌, ℕ, zero, suc, ◌<◌, ◌≤◌, ◌+◌, ◌^◌, ◌⊎◌, inl, inr, Bool, true, false, cond, ◌&&◌, ◌||◌, eqb, ltb, List, [], ◌∷◌, ◌++◌, length, map, get_or, Option, Some, None, refl, sym, ap, ap₂, subst, ◌∙◌, arith, append_assoc}
+use Rattle.std.proofs.Common.{◌≡◌, ℕ, zero, suc, ◌<◌, ◌≤◌, ◌+◌, ◌⊎◌, inl, inr, Bool, true, false, cond, ◌&&◌, ◌||◌, eqb, ltb, List, [], ◌∷◌, ◌++◌, length, Option, Some, None, refl, sym, ap, ap₂, subst, ◌∙◌, arith, append_assoc}
 use Rattle.std.specs.Prelude.{codes}
 use Rattle.std.specs.Fmt.{decimal}
 use Rattle.std.specs.Str.{bytes_eq}
-use Rattle.std.proofs.lemmas.Bool.{cases_eq, cases_Bool, both_ways, ne_eqb, eqb-true, lt-ltb, ltb-true}
+use Rattle.std.proofs.lemmas.Bool.{cases_Bool, both_ways, ne_eqb, eqb-true, lt-ltb, ltb-true}
 use Rattle.std.proofs.lemmas.Fmt.{decimal_injective}
 use Rattle.std.proofs.lemmas.Slice.Eq.{bytes_eq-Decides}
 use Rattle.line_text.specs.Words.{continues_name}
 use Rattle.line_text.proofs.TellingLemmas.{heads, tails, words_told, decimal_continues}
 use Rattle.netlist_verilog.proofs.WordLemmas.{decimal_told}
 use Rattle.line_rows.specs.Words.{◌>>=?◌, behind}
-use Rattle.line_rows.proofs.Exact.{IsExact, behind_again, behind_takes, some_of, tested, both_true, same_bytes}
-use Rattle.line_rows.proofs.RowLaws.{FitsMany}
-use Rattle.module_reader.specs.Lists.{next_or, is_comma, steps, ends_item, mark, arc_item, arc_mark, with_mark, arc_marks_from, arc_marks}
-use Rattle.cpog_defs.specs.Orders.{each_below}
+use Rattle.line_rows.proofs.Exact.{IsExact, behind_again, behind_takes, some_of, tested, both_true}
+use Rattle.module_reader.specs.Lists.{next_or, is_comma, ends_item, mark, arc_item, arc_mark, arc_marks_from, arc_marks}
 use Rattle.netlist_verilog.specs.Wires.{name_of}
 use Rattle.netlist_verilog.specs.Rows.{separator, joined}
 use Rattle.module_reader.specs.Lists.{run}
@@ -21,7 +19,7 @@ use Rattle.module_reader.specs.Modules.{gate_item, gate_room, condition_names, w
 use Rattle.module_reader.specs.Fits.{NotOwn, IsRow, IsMatrix, IsWires}
 use Rattle.module_reader.proofs.RowLaws.{below_front}
 use Rattle.module_reader.proofs.PortLaws.{none_behind}
-use Rattle.module_reader.proofs.ListLaws.{items_text, run_takes, run_again, puts, walk_text, IsWalk, walk_takes, Again, walk_keeps, walk_again}
+use Rattle.module_reader.proofs.ListLaws.{items_text, run_takes, run_again, puts, walk_text, walk_takes, Again, walk_keeps, walk_again}
 
 -- ---- one item
 
@@ -61,10 +59,15 @@ arc_mark_takes u v bytes = step (eqb u v) refl
 
 ends_name : (rest : List ℕ) → ends_item rest ≡ true → (c : ℕ) × (r : List ℕ) × (rest ≡ c ∷ r) × (continues_name c ≡ false)
 ends_name [] h = absurd cc
-ends_name (c ∷ r) h = (c, r, refl, elim (cases_Bool (is_comma c)) [
-  | inl is ↦ ap continues_name (eqb-true c 44 is)
-  | inr isnt ↦ ap continues_name (eqb-true c 59 (last (is_comma c) (eqb c 59) isnt h))
-])
+ends_name (c ∷ r) h = (
+  c,
+  r,
+  refl,
+  elim (cases_Bool (is_comma c)) [
+    | inl is ↦ ap continues_name (eqb-true c 44 is)
+    | inr isnt ↦ ap continues_name (eqb-true c 59 (last (is_comma c) (eqb c 59) isnt h))
+  ],
+)
   where
     last : (a b : Bool) → a ≡ false → (a || b) ≡ true → b ≡ true
     last false b p q = q

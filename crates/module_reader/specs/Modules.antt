@@ -1,5 +1,5 @@
 -- How a module is read from its lines.
-use Rattle.std.specs.Prelude.{◌≡◌, ℕ, ◌≤◌, ◌+◌, ◌==◌, ◌&&◌, ◌||◌, nat_le, nat_lt, Bool, true, false, List, [], ◌∷◌, ◌++◌, length, map, slice_index_or, is_some, Option, None, Some, Result, Ok, Err, codes, if◌then◌else◌}
+use Rattle.std.specs.Prelude.{◌≡◌, ℕ, ◌≤◌, ◌+◌, ◌==◌, ◌&&◌, ◌||◌, nat_le, nat_lt, Bool, true, false, List, [], ◌∷◌, ◌++◌, length, map, slice_index_or, is_some, Option, None, Some, Result, Ok, codes, if◌then◌else◌}
 use Rattle.std.specs.Fmt.{decimal}
 use Rattle.std.specs.List.{AllByRecursion}
 use Rattle.std.specs.Str.{bytes_eq}
@@ -10,14 +10,14 @@ use Rattle.cpog_defs.specs.declared.types.Gate.{Gate}
 use Rattle.cpog_defs.specs.declared.types.Ref.{Ref}
 use Rattle.cpog_defs.specs.Orders.{Set, each_below}
 use Rattle.handshake_eqs.specs.Netlists.{Netlist}
-use Rattle.netlist_verilog.specs.Wires.{Wire, Signal, Go, Acknowledge, Request, Done, Idle, Condition, name_of, wire_text}
-use Rattle.netlist_verilog.specs.Formulas.{formula_text, tightness, grouped, equation_row}
-use Rattle.netlist_verilog.specs.Equations.{arc_formula, done_equation, idle_equation}
+use Rattle.netlist_verilog.specs.Wires.{Go, Acknowledge, Request, Done, Idle, name_of, wire_text}
+use Rattle.netlist_verilog.specs.Formulas.{equation_row}
+use Rattle.netlist_verilog.specs.Equations.{done_equation, idle_equation}
 use Rattle.netlist_verilog.specs.Module.{ModuleValue}
 use Rattle.netlist_verilog.specs.Rows.{separator, joined, signals_from, for_each}
 use Rattle.line_rows.specs.Position.{Position}
 use Rattle.line_rows.specs.Reading.{◌>>=◌, row, line_at, read_or_fault, exactly, then_of, view_of, many_of}
-use Rattle.line_rows.specs.Words.{◌>>=?◌, behind, behind_of}
+use Rattle.line_rows.specs.Words.{◌>>=?◌, behind}
 use Rattle.module_reader.specs.Lists.{run, names_run, steps, arc_marks, wait_mark, with_wait}
 use Rattle.module_reader.specs.Rows.{gates_at, conditions_at, arcs_at}
 

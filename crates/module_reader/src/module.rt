@@ -145,11 +145,7 @@ fn declares(names: &Names, line: &[u8]) -> bool
 }
 
 #[tactic(auto, unfolding(crate::specs::Modules::body_at))]
-fn body_rows(
-    alloc: Global,
-    cursor: &mut Cursor<'_>,
-    ports: &Ports,
-) -> Result<Netlist, ReadError>
+fn body_rows(alloc: Global, cursor: &mut Cursor<'_>, ports: &Ports) -> Result<Netlist, ReadError>
     requires { IsPorts (ports_value ports.now) }
     ensures { Gives (λ n. (n, cursor.new)) result (body_at ports.now.inputs ports.now.names cursor.old) }
 {

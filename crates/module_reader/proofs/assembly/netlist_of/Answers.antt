@@ -1,4 +1,4 @@
-use Rattle.std.proofs.Common.{◌≡◌, ℕ, length, is_some, ap, ◌∙◌, arith}
+use Rattle.std.proofs.Common.{length, is_some, ap, ◌∙◌, arith}
 use Rattle.handshake_eqs.specs.Netlists.{Netlist, wire_of}
 use Rattle.module_reader.proofs.AssemblyLaws.{wired_below}
 use Rattle.module_reader.proofs.assembly.netlist_of.Goals as goal

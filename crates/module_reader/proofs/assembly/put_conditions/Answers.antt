@@ -1,7 +1,7 @@
-use Rattle.std.proofs.Common.{◌≡◌, ℕ, ◌<◌, false, length, subst, sym, arith, ◌∙◌}
+use Rattle.std.proofs.Common.{◌<◌, false, length, subst, sym, arith, ◌∙◌}
 use Rattle.cpog_defs.specs.declared.types.Ref.TheVariants.{Const}
 use Rattle.handshake_eqs.specs.Netlists.{Netlist}
-use Rattle.module_reader.proofs.AssemblyLaws.{mixed, mixed_length, condition_step, conditions_done, over_kept}
+use Rattle.module_reader.proofs.AssemblyLaws.{mixed_length, condition_step, conditions_done, over_kept}
 use Rattle.module_reader.proofs.assembly.put_conditions.Goals as goal
 
 pub set_condition-requires-clause-below : goal.set_condition-requires-clause-below

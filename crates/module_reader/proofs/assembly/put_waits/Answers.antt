@@ -1,4 +1,4 @@
-use Rattle.std.proofs.Common.{◌≡◌, ℕ, ◌<◌, ◌≤◌, length, subst, sym, ap, arith, ◌∙◌, true, IsSome, slice_index_or, slice_set}
+use Rattle.std.proofs.Common.{◌<◌, ◌≤◌, length, subst, sym, ap, arith, ◌∙◌, IsSome, slice_set}
 use Rattle.std.specs.FinSet as set
 use Rattle.cpog_defs.specs.Orders.{Set}
 use Rattle.handshake_eqs.specs.Netlists.{Netlist, wire_of}

@@ -1,4 +1,4 @@
-use Rattle.std.proofs.Common.{◌≡◌, ℕ, ◌<◌, length, subst, sym, ap, arith, ◌∙◌, IsSome, Bool, cond, slice_set}
+use Rattle.std.proofs.Common.{◌<◌, length, subst, sym, ap, arith, ◌∙◌, IsSome, Bool, cond, slice_set}
 use Rattle.std.specs.FinSet as set
 use Rattle.handshake_eqs.specs.Netlists.{Netlist, wire_of, waits_of}
 use Rattle.module_reader.proofs.AssemblyLaws.{wait_start, wait_step, set_done}

@@ -1,8 +1,8 @@
-use Rattle.std.proofs.Common.{◌≡◌, ℕ, ◌<◌, ◌≤◌, [], None, List, Option, length, map, slice_index_or, slice_set, subst, sym, ap, arith, ◌∙◌}
+use Rattle.std.proofs.Common.{◌≡◌, ◌<◌, ◌≤◌, None, List, Option, length, map, slice_index_or, slice_set, subst, sym, ap, arith, ◌∙◌}
 use Rattle.std.proofs.lemmas.List.{length-map}
 use Rattle.cpog_defs.specs.declared.types.Ref.{Ref}
 use Rattle.cpog_defs.specs.Gates.{signal_count}
-use Rattle.handshake_eqs.specs.Netlists.{Netlist, IsWireOver, wire_of}
+use Rattle.handshake_eqs.specs.Netlists.{Netlist, IsWireOver}
 use Rattle.module_reader.proofs.AssemblyLaws.{rows_step, rows_done, row_later, columns_later, rows_later}
 use Rattle.module_reader.proofs.assembly.put_wires.Goals as goal
 

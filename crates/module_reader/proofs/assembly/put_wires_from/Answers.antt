@@ -1,4 +1,4 @@
-use Rattle.std.proofs.Common.{◌≡◌, ℕ, ◌<◌, [], None, length, slice_index_or, subst, sym, arith, ◌∙◌}
+use Rattle.std.proofs.Common.{◌<◌, None, length, slice_index_or, subst, sym, arith, ◌∙◌}
 use Rattle.cpog_defs.specs.Gates.{signal_count}
 use Rattle.handshake_eqs.specs.Netlists.{Netlist, IsWireOver}
 use Rattle.module_reader.proofs.AssemblyLaws.{wire_step, row_done, row_start, wire_later, own_wire}

@@ -1,4 +1,4 @@
-use Rattle.std.proofs.Common.{ap, map, arith}
+use Rattle.std.proofs.Common.{ap, map}
 use Rattle.module_reader.proofs.WholeLaws.{parts_made, gates_small}
 use Rattle.module_reader.specs.Values.{declared_value}
 use Rattle.module_reader.proofs.module.netlist_rows.Goals as goal

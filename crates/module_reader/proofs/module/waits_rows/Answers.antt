@@ -1,6 +1,6 @@
-use Rattle.std.proofs.Common.{◌≡◌, ℕ, Bool, List, length, map, ap, ◌∙◌, arith}
+use Rattle.std.proofs.Common.{length, map, ap, ◌∙◌, arith}
 use Rattle.module_reader.specs.Modules.{requests_at}
-use Rattle.module_reader.proofs.WholeLaws.{Asked, asked, gives_at}
+use Rattle.module_reader.proofs.WholeLaws.{asked, gives_at}
 use Rattle.module_reader.proofs.module.waits_rows.Goals as goal
 
 pub requests_rows-requires-clause-rows : goal.requests_rows-requires-clause-rows

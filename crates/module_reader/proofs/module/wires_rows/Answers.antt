@@ -1,7 +1,7 @@
-use Rattle.std.proofs.Common.{◌≡◌, ℕ, Bool, List, length, map, ap₂}
+use Rattle.std.proofs.Common.{ℕ, length, map, ap₂}
 use Rattle.module_reader.specs.Rows.{arcs_at}
 use Rattle.module_reader.specs.Modules.{is_declared}
-use Rattle.module_reader.proofs.WholeLaws.{Asked, asked, gates_small, gives_at}
+use Rattle.module_reader.proofs.WholeLaws.{asked, gates_small, gives_at}
 use Rattle.module_reader.proofs.module.wires_rows.Goals as goal
 
 pub arcs_rows-requires-clause-small : goal.arcs_rows-requires-clause-small

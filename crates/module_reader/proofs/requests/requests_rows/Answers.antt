@@ -1,4 +1,4 @@
-use Rattle.std.proofs.Common.{◌≡◌, ℕ, ◌-◌, ◌+◌, suc, arith, ◌++◌, [], ◌∷◌, Bool, List, length, map, ap, ◌∙◌}
+use Rattle.std.proofs.Common.{◌≡◌, ◌-◌, ◌+◌, suc, arith, Bool, List, length, map}
 use Rattle.std.proofs.lemmas.Result.{err_from_is_err_and}
 use Rattle.line_rows.specs.Reading.{row}
 use Rattle.line_rows.proofs.Loops.{goes_on, stops}

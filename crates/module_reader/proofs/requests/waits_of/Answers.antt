@@ -1,4 +1,4 @@
-use Rattle.std.proofs.Common.{◌≡◌, ℕ, suc, ◌-◌, ◌+◌, Bool, List, length, map, sym, ap, ◌∙◌, arith}
+use Rattle.std.proofs.Common.{◌≡◌, ℕ, ◌-◌, ◌+◌, Bool, List, length, map, sym, ap, ◌∙◌, arith}
 use Rattle.cpog_defs.specs.Orders.{Set}
 use Rattle.netlist_verilog.specs.Wires.{name_of}
 use Rattle.netlist_verilog.proofs.WritingLemmas.{name_at}

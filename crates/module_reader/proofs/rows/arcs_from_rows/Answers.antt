@@ -1,4 +1,4 @@
-use Rattle.std.proofs.Common.{◌≡◌, ℕ, ◌-◌, ◌+◌, suc, arith, ◌++◌, [], ◌∷◌, false, length, slice_index_or, ap, ◌∙◌}
+use Rattle.std.proofs.Common.{◌≡◌, ◌-◌, ◌+◌, suc, arith, false, length, slice_index_or}
 use Rattle.std.proofs.lemmas.Result.{err_from_is_err_and}
 use Rattle.line_rows.proofs.Loops.{goes_on, stops}
 use Rattle.module_reader.specs.Rows.{arc_at}

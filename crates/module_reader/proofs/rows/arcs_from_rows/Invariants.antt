@@ -1,5 +1,5 @@
 use Rattle.std.proofs.Common.{◌≡◌, ◌-◌, ◌+◌, false, length, slice_index_or}
-use Rattle.line_rows.specs.Reading.{row, many_of}
+use Rattle.line_rows.specs.Reading.{many_of}
 use Rattle.line_rows.proofs.Loops.{with_front}
 use Rattle.module_reader.specs.Rows.{arc_at}
 use Rattle.module_reader.proofs.rows.arcs_from_rows.Given as goal

@@ -1,5 +1,5 @@
 use Rattle.std.proofs.Common.{◌≡◌, ◌-◌, ◌+◌, length, map}
-use Rattle.line_rows.specs.Reading.{row, many_of}
+use Rattle.line_rows.specs.Reading.{many_of}
 use Rattle.line_rows.proofs.Loops.{with_front}
 use Rattle.module_reader.specs.Rows.{arcs_from_at, arcs_at}
 use Rattle.module_reader.specs.Modules.{is_declared}
