@@ -24,3 +24,6 @@ pub use laws::modules_are_rows;
 pub use module::{ModuleFault, module_rows, read_module};
 pub use ports::Ports;
 pub use wires::Declared;
+
+#[cfg(test)]
+mod tests;
