@@ -1,6 +1,6 @@
 -- The names of a header are read exactly.
-use Rattle.std.proofs.Common.{◌≡◌, ℕ, zero, suc, ◌<◌, ◌≤◌, ◌+◌, ◌-◌, Bool, true, false, cond, ◌&&◌, ◌||◌, not, eqb, List, [], ◌∷◌, ◌++◌, length, take, drop, get_or, Option, Some, None, refl, sym, ap, ap₂, subst, ◌∙◌, arith, append_assoc, length-append, inl, inr}
-use Rattle.std.specs.Prelude.{codes, IsTrue}
+use Rattle.std.proofs.Common.{◌≡◌, ℕ, zero, suc, ◌≤◌, ◌-◌, Bool, true, false, cond, ◌||◌, not, List, [], ◌∷◌, ◌++◌, length, drop, get_or, Option, Some, None, refl, sym, ap, ap₂, subst, ◌∙◌, arith, append_assoc, length-append, inl, inr}
+use Rattle.std.specs.Prelude.{codes}
 use Rattle.std.specs.List.{position_or_len, before_first, All, AllByRecursion, IsDistinct}
 use Rattle.std.specs.Str.{bytes_eq}
 use Rattle.std.specs.Cmp.Lexicographic.{bytes_decides}
@@ -158,6 +158,7 @@ new_are_distinct done (w ∷ ws) h distinct =
 
 pub distinct_are_new : (done ws : List (List ℕ)) → AllByRecursion (λ w. is_free_name w ≡ true) ws → AreDistinct (done ++ ws) → AreNew done ws
 distinct_are_new done [] free distinct = tt
-distinct_are_new done (w ∷ ws) free distinct =
-    (rw (free.0, is_new done w ws distinct) refl,
-     distinct_are_new (done ++ w ∷ []) ws free.1 (subst AreDistinct (sym (append_assoc done (w ∷ []) ws)) distinct))
+distinct_are_new done (w ∷ ws) free distinct = (
+  rw (free.0, is_new done w ws distinct) refl,
+  distinct_are_new (done ++ w ∷ []) ws free.1 (subst AreDistinct (sym (append_assoc done (w ∷ []) ws)) distinct),
+)

@@ -1,5 +1,5 @@
 -- The lines of the ports are read exactly.
-use Rattle.std.proofs.Common.{lit<, ◌≡◌, ℕ, zero, suc, ◌<◌, ◌≤◌, ◌+◌, Bool, true, false, cond, ◌&&◌, eqb, leb, List, [], ◌∷◌, ◌++◌, length, map, Option, Some, None, Result, refl, sym, ap, ap₂, subst, ◌∙◌, arith, append_assoc}
+use Rattle.std.proofs.Common.{◌≡◌, ℕ, zero, suc, ◌<◌, ◌≤◌, ◌+◌, Bool, true, false, cond, ◌&&◌, eqb, leb, List, [], ◌∷◌, ◌++◌, length, map, Option, Some, None, refl, sym, ap, ap₂, subst, ◌∙◌, arith, append_assoc}
 use Rattle.std.specs.Prelude.{codes}
 use Rattle.std.specs.Fmt.{decimal}
 use Rattle.std.specs.List.{AllByRecursion, IsDistinct}
@@ -11,20 +11,18 @@ use Rattle.cpog_base.specs.Names.{AreDistinct}
 use Rattle.cpog_defs.specs.Orders.{each_below}
 use Rattle.line_text.specs.Words.{is_free_name}
 use Rattle.line_text.proofs.TellingLemmas.{heads, tails}
-use Rattle.netlist_verilog.specs.Wires.{Wire, Signal, Go, Acknowledge, Request, Done, Idle, name_of, signal_text, wire_text}
+use Rattle.netlist_verilog.specs.Wires.{Signal, Go, Acknowledge, Request, Done, Idle, name_of, signal_text, wire_text}
 use Rattle.netlist_verilog.specs.Rows.{separator, joined, signals_from, for_each}
 use Rattle.netlist_verilog.proofs.BelowLemmas.{map_ones}
-use Rattle.netlist_verilog.proofs.WritingLemmas.{is_nil, nil_below, middle, joined_append}
-use Rattle.line_rows.specs.Position.{Position}
-use Rattle.line_rows.specs.Reading.{row, exactly, then_of, view_of}
+use Rattle.netlist_verilog.proofs.WritingLemmas.{nil_below, middle}
 use Rattle.line_rows.specs.Words.{◌>>=?◌, behind}
-use Rattle.line_rows.proofs.Exact.{IsExact, behind_again, behind_takes, some_of, tested, both_true, same_bytes, none_where}
+use Rattle.line_rows.proofs.Exact.{IsExact, behind_again, behind_takes, some_of, tested, both_true, none_where}
 use Rattle.line_rows.proofs.RowLaws.{IsRows, rows-row, rows-then, rows-view, exact-exactly}
 use Rattle.module_reader.specs.Lists.{run, names_run}
 use Rattle.module_reader.specs.Modules.{inputs_text, outputs_text, header_line, inputs_line, outputs_line, input_item, header_end, header_from, header_names, header_in, first_of, ports_at, IsPorts}
 use Rattle.module_reader.proofs.RowLaws.{below_front}
 use Rattle.module_reader.proofs.ListLaws.{items_text, run_takes, run_again, items_joined}
-use Rattle.module_reader.proofs.NameLaws.{names_text, names_take, names_again, AreNew, Follows, new_are_distinct, distinct_are_new}
+use Rattle.module_reader.proofs.NameLaws.{names_text, names_take, names_again, Follows, new_are_distinct, distinct_are_new}
 
 pub none_behind : (front bytes : List ℕ) → ((rest : List ℕ) → bytes ≡ front ++ rest → ⊥) → behind front bytes ≡ None
 none_behind front bytes h = sym (none_where (behind front bytes) (λ rest e. h rest (behind_takes front bytes rest e)))

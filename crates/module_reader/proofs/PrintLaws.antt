@@ -1,10 +1,10 @@
 -- What is printed are the lines that the names determine.
-use Rattle.std.proofs.Common.{◌≡◌, ℕ, ◌+◌, ◌≤◌, Bool, true, false, eqb, List, [], ◌∷◌, ◌++◌, length, refl, sym, ap, ap₂, ◌∙◌, append_assoc}
+use Rattle.std.proofs.Common.{◌≡◌, ℕ, ◌≤◌, true, false, eqb, List, [], ◌∷◌, ◌++◌, length, refl, sym, ap, ap₂, ◌∙◌, append_assoc}
 use Rattle.std.specs.Prelude.{codes}
 use Rattle.cpog_defs.specs.Orders.{each_below}
-use Rattle.netlist_verilog.specs.Wires.{Go, Acknowledge, Wire, Done, Idle, name_of, wire_text}
-use Rattle.netlist_verilog.specs.Formulas.{Formula, Read, Not, formula_text}
-use Rattle.netlist_verilog.specs.Equations.{through_formula, and_each}
+use Rattle.netlist_verilog.specs.Wires.{Go, Acknowledge, name_of}
+use Rattle.netlist_verilog.specs.Formulas.{Read, Not}
+use Rattle.netlist_verilog.specs.Equations.{through_formula}
 use Rattle.netlist_verilog.specs.Rows.{separator, joined, and_text}
 use Rattle.netlist_verilog.proofs.WritingLemmas.{is_nil, nil_below, joined_append, each_text}
 use Rattle.module_reader.specs.Modules.{outputs_text, header_end, inputs_line, outputs_line, done_line, idle_line, plain_module}

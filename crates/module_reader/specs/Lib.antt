@@ -6,3 +6,4 @@ pub mod Modules
 pub mod Faults
 pub mod Laws
 pub mod Values
+pub mod Fits

@@ -118,7 +118,11 @@ fn wires_behind(
 
 /// What the line declares.
 #[tactic(auto, unfolding(crate::specs::Modules::wires_in))]
-pub(crate) fn wires_of(alloc: Global, line: &[u8], ports: &Ports) -> Result<Option<Declared>, Memory>
+pub(crate) fn wires_of(
+    alloc: Global,
+    line: &[u8],
+    ports: &Ports,
+) -> Result<Option<Declared>, Memory>
     requires { length ports.now.names ≤ 128 }
     ensures { IfOk result (λ o. option_map declared_value o ≡ wires_in ports.now.inputs ports.now.names line.now) }
 {

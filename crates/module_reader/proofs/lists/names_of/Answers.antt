@@ -1,4 +1,4 @@
-use Rattle.std.proofs.Common.{◌≡◌, ℕ, suc, ◌-◌, ◌+◌, List, [], sym, ap, ◌∙◌, arith}
+use Rattle.std.proofs.Common.{◌≡◌, ℕ, suc, ◌-◌, ◌+◌, sym, ap, ◌∙◌, arith}
 use Rattle.module_reader.specs.Lists.{names_run}
 use Rattle.module_reader.proofs.NameSteps.{names_none, match_none}
 use Rattle.module_reader.proofs.lists.names_of.Goals as goal

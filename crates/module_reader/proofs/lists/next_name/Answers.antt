@@ -1,4 +1,4 @@
-use Rattle.std.proofs.Common.{◌≡◌, ℕ, ◌≤◌, true, false, take, drop, length, List, [], ◌∷◌, ◌++◌, arith, sym, ap, ap₂, ◌∙◌}
+use Rattle.std.proofs.Common.{◌≡◌, ℕ, true, false, take, drop, List, [], ◌∷◌, ◌++◌, sym, ap, ap₂, ◌∙◌}
 use Rattle.std.specs.List.{before_first, position_or_len}
 use Rattle.module_reader.specs.Lists.{is_comma, is_new_name, names_run}
 use Rattle.module_reader.proofs.NameSteps.{place_within, word_stops, word_goes_on}

@@ -1,5 +1,4 @@
-use Rattle.std.proofs.Common.{refl, ◌∙◌, ap}
-use Rattle.netlist_verilog.specs.Wires.{name_of}
+use Rattle.std.proofs.Common.{refl}
 use Rattle.netlist_verilog.proofs.WritingLemmas.{through_more, name_at}
 use Rattle.module_reader.specs.Modules.{plain_module}
 use Rattle.module_reader.proofs.printed.put_each_through.Goals as goal

@@ -1,4 +1,4 @@
-use Rattle.std.proofs.Common.{◌≡◌, ℕ, suc, ◌-◌, ◌+◌, Bool, List, sym, ap, ◌∙◌, arith}
+use Rattle.std.proofs.Common.{ℕ, ◌-◌, ◌+◌, Bool, List, sym, ap, ◌∙◌, arith}
 use Rattle.module_reader.specs.Lists.{steps, with_mark, arc_mark}
 use Rattle.module_reader.proofs.ListLaws.{steps_on}
 use Rattle.module_reader.proofs.wires.arcs_from.Goals as goal

@@ -1,4 +1,4 @@
-use Rattle.std.proofs.Common.{◌≡◌, ℕ, suc, ◌-◌, ◌+◌, ◌++◌, [], ◌∷◌, map, Bool, List, sym, ap, ◌∙◌, arith}
+use Rattle.std.proofs.Common.{ℕ, ◌-◌, ◌+◌, [], ◌∷◌, map, Bool, List, sym, ap, ◌∙◌, arith}
 use Rattle.std.proofs.lemmas.List.{map-append}
 use Rattle.module_reader.specs.Lists.{steps, with_mark, arc_marks_from}
 use Rattle.module_reader.proofs.ListLaws.{steps_on}
