@@ -16,3 +16,6 @@ pub mod GateLaws
 pub mod ArcLaws
 pub mod ArcSteps
 pub mod EntryLaws
+pub mod ColumnLaws
+pub mod PartLaws
+pub mod WholeLaws
