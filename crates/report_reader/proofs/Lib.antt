@@ -19,3 +19,4 @@ pub mod EntryLaws
 pub mod ColumnLaws
 pub mod PartLaws
 pub mod WholeLaws
+pub mod ReadLaws
