@@ -20,3 +20,6 @@ pub mod ColumnLaws
 pub mod PartLaws
 pub mod WholeLaws
 pub mod ReadLaws
+pub mod GraphLaws
+pub mod CheckedLaws
+pub mod FinalLaws
