@@ -25,7 +25,9 @@ use Rattle.report_reader.specs.Heads.{HeadValue, head_at}
 use Rattle.report_reader.specs.Scenarios.{Columns, columns_at}
 use Rattle.report_reader.specs.Gates.{gate_list_at, ops_at, arcs_at}
 use Rattle.report_reader.specs.Entries.{EndsFit, arcs_set, graph_from}
-use Rattle.report_reader.specs.Reports.{report_read}
+use Rattle.text_rows.specs.FirstBad.{IsFirstBad}
+use Rattle.report_reader.specs.Reports.{IsReportText, report_read}
+use Rattle.report_reader.proofs.ReadLaws.{report_bad}
 use Rattle.report_reader.specs.declared.gates.ArcLine.{ArcLine}
 use Rattle.report_reader.proofs.GraphLaws.{arcs_are_table}
 
@@ -88,3 +90,6 @@ pub own_encoding : (r : ReportValue) → IsReport r → IsEncoding (length r.enc
 own_encoding r is =
     let count : length r.encoding.graph.ops ≡ length r.names = is.encoding.graph.ops in
     subst (λ (n : ℕ). IsEncoding n r.encoding) (sym count) is.encoding
+
+pub fault_first : (lines : List (List ℕ)) (fault : ReadError) (n : ℕ) → fault ≡ errors.BadLine n → Fails fault (whole report_read lines) → IsFirstBad IsReportText lines n
+fault_first lines fault n is f = report_bad lines n (subst (λ (e : ReadError). Fails e (whole report_read lines)) is f)

@@ -10,3 +10,4 @@ pub mod Gates
 pub mod Entries
 pub mod Reports
 pub mod Wholes
+pub mod Faults

@@ -1,9 +1,8 @@
 //! A report as a whole.
-ghost use Rattle.std.specs.Prelude.{◌≡◌, ℕ, ◌<◌, ◌≤◌, ◌+◌, ◌^◌, [], length, IfOk, IsErrOf};
+ghost use Rattle.std.specs.Prelude.{◌≡◌, ◌<◌, ◌≤◌, ◌^◌, [], length, IfOk, IfErr};
 ghost use Rattle.std.specs.List.{AllByRecursion};
 ghost use Rattle.netlist_verilog.specs.Module.{AreNames};
 ghost use Rattle.line_text.specs.Lines.{lines_of};
-ghost use Rattle.text_rows.specs.FirstBad.{IsFirstBad};
 ghost use Rattle.line_rows.specs.Reading.{Gives, whole};
 ghost use Rattle.report_text.specs.Report.{IsReport};
 ghost use Rattle.report_text.specs.Spelling.{SpellsReport};
@@ -13,8 +12,9 @@ ghost use Rattle.report_reader.specs.Columns.{columns_of};
 ghost use Rattle.report_reader.specs.Scenarios.{columns_at};
 ghost use Rattle.report_reader.specs.Gates.{ops_at, arcs_at};
 ghost use Rattle.report_reader.specs.Entries.{EndsFit};
-ghost use Rattle.report_reader.specs.Reports.{IsReportText, report_read};
+ghost use Rattle.report_reader.specs.Reports.{report_read};
 ghost use Rattle.report_reader.specs.Wholes.{report_of_rows};
+ghost use Rattle.report_reader.specs.Faults.{IsFaultOf};
 
 use crate::gates::{ArcLine, arcs_of, gates_of, ops_of};
 use crate::graph::graph_of;
@@ -182,7 +182,7 @@ fn report_of(rows: Rows) -> Report
 pub fn read_report(alloc: Global, bytes: &[u8]) -> Result<Report, ReportFault>
     requires { length bytes.now < 2 ^ 31 }
     ensures found { IfOk result (λ r. SpellsReport r (lines_of bytes.now)) }
-    ensures bad { (k : ℕ) → IsErrOf result (ReportFault.BadSection k) → IsFirstBad IsReportText (lines_of bytes.now) k }
+    ensures bad { IfErr result (IsFaultOf (lines_of bytes.now)) }
 {
     match all_rows(alloc, bytes) {
         Err(ReadError::Memory) => Err(ReportFault::Memory),
