@@ -1,5 +1,5 @@
 -- The rows of arc wires: a line where the wire is declared, and the matrix of the netlist is what they say.
-use Rattle.std.proofs.Common.{◌≡◌, ℕ, zero, suc, ◌<◌, ◌≤◌, ◌+◌, ◌^◌, Bool, true, false, List, [], ◌∷◌, ◌++◌, length, map, get_or, Option, Some, None, Result, Ok, Err, refl, sym, ap, subst, ◌∙◌, arith, append_assoc}
+use Rattle.std.proofs.Common.{◌≡◌, ℕ, zero, suc, ◌<◌, ◌+◌, ◌^◌, Bool, true, false, List, [], ◌∷◌, ◌++◌, length, map, get_or, Option, Some, None, refl, sym, ap, subst, ◌∙◌}
 use Rattle.std.specs.Prelude.{codes, is_some}
 use Rattle.std.proofs.lemmas.List.{map-append}
 use Rattle.cpog_defs.specs.declared.types.Ref.{Ref}
@@ -8,10 +8,9 @@ use Rattle.cpog_defs.specs.Orders.{each_below}
 use Rattle.cpog_defs.specs.Gates.{IsRefOver}
 use Rattle.handshake_eqs.specs.Netlists.{IsWireOver}
 use Rattle.netlist_verilog.specs.Wires.{ArcCondition, wire_text}
-use Rattle.netlist_verilog.specs.Formulas.{Equation, equation_row}
+use Rattle.netlist_verilog.specs.Formulas.{equation_row}
 use Rattle.netlist_verilog.specs.Equations.{arc_equation, ref_formula}
-use Rattle.line_rows.specs.Position.{Position}
-use Rattle.line_rows.specs.Reading.{row, many_of, view_of, lines_many}
+use Rattle.line_rows.specs.Reading.{lines_many}
 use Rattle.line_rows.proofs.Exact.{IsExact, exact-behind, exact-before}
 use Rattle.line_rows.proofs.RowLaws.{IsRows, rows-row, rows-view, rows-none, rows-many, FitsMany}
 use Rattle.module_reader.specs.Rows.{arc_in, declared_wire, arc_at, arcs_from_at, arcs_at}

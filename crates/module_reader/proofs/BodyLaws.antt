@@ -1,34 +1,27 @@
 -- The rows of a netlist, from its gates to the last line, and with the line of its wires before them.
-use Rattle.std.proofs.Common.{◌≡◌, ℕ, zero, suc, ◌<◌, ◌≤◌, ◌+◌, ◌^◌, ◌⊎◌, inl, inr, Bool, true, false, cond, ◌&&◌, ◌||◌, eqb, ltb, List, [], ◌∷◌, ◌++◌, length, map, get_or, Option, Some, None, is_some, Result, Ok, Err, refl, sym, ap, ap₂, subst, ◌∙◌, arith, append_assoc}
+use Rattle.std.proofs.Common.{◌≡◌, ℕ, ◌<◌, ◌≤◌, ◌+◌, ◌^◌, Bool, true, false, cond, eqb, List, [], ◌∷◌, ◌++◌, length, map, get_or, Result, refl, sym, ap, subst, ◌∙◌, arith}
 use Rattle.std.specs.Prelude.{codes}
 use Rattle.std.specs.List.{AllByRecursion}
 use Rattle.std.specs.FinSet as set
 use Rattle.std.specs.Ordering.{nat_cmp}
-use Rattle.std.proofs.lemmas.Bool.{lt-ltb, eqb-false}
+use Rattle.std.proofs.lemmas.Bool.{eqb-false}
 use Rattle.cpog_base.specs.Names.{AreDistinct}
-use Rattle.cpog_defs.specs.declared.types.Gate.{Gate}
-use Rattle.cpog_defs.specs.declared.types.Ref.{Ref}
 use Rattle.cpog_defs.specs.Orders.{Set, each_below}
 use Rattle.handshake_eqs.specs.Netlists.{Netlist}
 use Rattle.line_text.specs.Words.{continues_name}
-use Rattle.line_text.proofs.TellingLemmas.{AllPass, heads, tails}
+use Rattle.line_text.proofs.TellingLemmas.{AllPass}
 use Rattle.netlist_verilog.specs.Formulas.{equation_row}
 use Rattle.netlist_verilog.proofs.BelowLemmas.{map_ones}
 use Rattle.netlist_verilog.proofs.RequestRowLemmas.{request_of}
 use Rattle.line_rows.specs.Position.{Position}
-use Rattle.line_rows.specs.Reading.{◌>>=◌, row, line_at, read_or_fault, exactly, then_of, view_of, many_of, lines_many}
-use Rattle.line_rows.specs.Either.{fork, either_of}
-use Rattle.line_rows.specs.Words.{behind}
-use Rattle.line_rows.proofs.Exact.{behind_again}
-use Rattle.line_rows.proofs.EitherLaws.{Begun, rows-either}
-use Rattle.line_rows.proofs.RowLaws.{at, IsRows, rows-row, rows-then, rows-view, rows-many, exact-exactly, FitsMany}
-use Rattle.module_reader.specs.Rows.{gates_at, conditions_at, arcs_at}
-use Rattle.module_reader.specs.Modules.{request_in, requests_at, done_line, idle_line, nothing, last_at, ends_at, netlist_of, Parts, netlist_from, netlist_at, no_netlist, declared_at, undeclared_at, declares, body_from, body_at, is_declared, wires_in, gate_room}
+use Rattle.line_rows.specs.Reading.{row, then_of, view_of, lines_many}
+use Rattle.line_rows.proofs.RowLaws.{IsRows, rows-row, rows-then, rows-view, rows-many, exact-exactly, FitsMany}
+use Rattle.module_reader.specs.Modules.{requests_at, done_line, idle_line, nothing, last_at, ends_at, netlist_of, Parts, netlist_from, netlist_at, is_declared, wires_in, gate_room}
 use Rattle.module_reader.proofs.RowLaws.{rows-same, lines_from_first, Ahead, SoManyGates, gates_lines, gates_rows, SoManyRefs, conditions_lines, conditions_rows}
 use Rattle.module_reader.proofs.ArcLaws.{AreAllDeclared, matrix_lines, arcs_rows}
 use Rattle.module_reader.proofs.MatrixLaws.{bits_of, fits_length, matrix_is}
-use Rattle.module_reader.proofs.PortLaws.{none_behind}
-use Rattle.module_reader.proofs.WireLaws.{IsWires, wires_line, wires_exact}
+use Rattle.module_reader.specs.Fits.{IsWires}
+use Rattle.module_reader.proofs.WireLaws.{wires_line, wires_exact}
 use Rattle.module_reader.proofs.RequestLaws.{IsWaits, request_line, request_exact}
 
 -- ---- requests
@@ -55,7 +48,7 @@ none_waits names arcs v u h = absurd (no_both (set.contains no_waits u) (set.con
     no_both true e f = cc
     no_both false e f = cc
 
-requests_rows : (inputs : ℕ) (names : List (List ℕ)) (arcs : List (List Bool)) → AllByRecursion (AllPass continues_name) names → AreDistinct names → IsRows (AreAllWaits names arcs) (requests_lines inputs names (length names)) (requests_at inputs names arcs)
+pub requests_rows : (inputs : ℕ) (names : List (List ℕ)) (arcs : List (List Bool)) → AllByRecursion (AllPass continues_name) names → AreDistinct names → IsRows (AreAllWaits names arcs) (requests_lines inputs names (length names)) (requests_at names arcs)
 requests_rows inputs names arcs pass distinct =
     rows-same (AreAllWaits names arcs) (requests_lines inputs names (length names))
     (rows-many (λ v _. v + 1) (λ _ _. Unit {0}) (λ n v h. rows-row (request_exact inputs names arcs v pass distinct) (no_waits, none_waits names arcs v)) (λ n v s h fits. tt) (length names) 0 tt)
@@ -116,7 +109,7 @@ netlist_rows inputs names d ahead good =
     let small : inputs + d.0 < 2 ^ 32 = omega (arith, ahead.small) in
     rows-view (netlist_from inputs) (IsNetlistFor inputs names d) (λ n. parts_lines inputs names (parts_of n))
     (rows-then (gates_rows inputs d.0 names ahead) (λ _ _. rows-then (conditions_rows inputs d.0 names small) (λ _ _.
-        rows-then (arcs_rows inputs d.0 names (is_declared d.1) (length names) small) (λ _ _. rows-then (requests_rows inputs names d.1 good.pass good.distinct) (λ _ _. ends_rows inputs names)))))
+    rows-then (arcs_rows inputs d.0 names (is_declared d.1) (length names) small) (λ _ _. rows-then (requests_rows inputs names d.1 good.pass good.distinct) (λ _ _. ends_rows inputs names)))))
     (λ n h. (parts_of n, h.1, refl, ap (with_inputs n) (sym h.0)))
     (λ x h. ((refl, h), refl))
 
@@ -138,7 +131,7 @@ second_of x = x.1
 abbrev pub full_at : ℕ → List (List ℕ) → Position → Result (Netlist × Position) ℕ
 full_at inputs names = view_of second_of (then_of (row (wires_in inputs names)) (netlist_at inputs names))
 
-room_ahead : (inputs count : ℕ) → 1 ≤ inputs → inputs ≤ 8 → count ≤ gate_room inputs → Ahead inputs count 0
+pub room_ahead : (inputs count : ℕ) → 1 ≤ inputs → inputs ≤ 8 → count ≤ gate_room inputs → Ahead inputs count 0
 room_ahead inputs count some few room = step (eqb inputs 1) refl room
   where
     step : (b : Bool) → eqb inputs 1 ≡ b → count ≤ cond b 0 262143 → Ahead inputs count 0
@@ -148,7 +141,7 @@ room_ahead inputs count some few room = step (eqb inputs 1) refl room
         more : eqb inputs 1 ≡ false → 2 ≤ inputs + 0
         more e = omega (arith, some, eqb-false inputs 1 e)
 
-full_made : (inputs : ℕ) (names : List (List ℕ)) (d : ℕ × List (List Bool)) (n : Netlist) → IsWires inputs names d → IsNetlistFor inputs names d n → wires_of n ≡ d
+pub full_made : (inputs : ℕ) (names : List (List ℕ)) (d : ℕ × List (List Bool)) (n : Netlist) → IsWires inputs names d → IsNetlistFor inputs names d n → wires_of n ≡ d
 full_made inputs names d n w h = λ i. (h.1.0.1 i, matrix_is (inputs + d.0) (length names) d.1 n.wires h.1.1.1.0 w.matrix i)
 
 abbrev WiresFit : ℕ → List (List ℕ) → (ℕ × List (List Bool)) × Netlist → Type 0
@@ -163,6 +156,7 @@ full_rows inputs names some few good witness =
     (rows-then (rows-row (wires_exact inputs names good.few) witness) (λ d w. netlist_rows inputs names d (room_ahead inputs d.0 some few w.few) good))
     (λ n h. ((wires_of n, n), (h.wires, h.netlist), refl, refl))
     (λ x h.
-        let same : wires_of x.1 ≡ x.0 = full_made inputs names x.0 x.1 h.0 h.1 in
-        (subst (λ (d : ℕ × List (List Bool)). IsWires inputs names d → IsNetlistFor inputs names d x.1 → IsFull inputs names x.1) same (λ w n. record { wires = w; netlist = n }) h.0 h.1,
-         ap (λ (d : ℕ × List (List Bool)). wires_line names d ∷ parts_lines inputs names (parts_of x.1)) same))
+    let same : wires_of x.1 ≡ x.0 = full_made inputs names x.0 x.1 h.0 h.1 in (
+      subst (λ (d : ℕ × List (List Bool)). IsWires inputs names d → IsNetlistFor inputs names d x.1 → IsFull inputs names x.1) same (λ w n. record { wires = w; netlist = n }) h.0 h.1,
+      ap (λ (d : ℕ × List (List Bool)). wires_line names d ∷ parts_lines inputs names (parts_of x.1)) same,
+    ))

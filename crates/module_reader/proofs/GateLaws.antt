@@ -1,10 +1,10 @@
 -- The line of a gate is read exactly.
-use Rattle.std.proofs.Common.{lit<, ◌≡◌, ℕ, zero, suc, ◌<◌, ◌≤◌, ◌+◌, ◌-◌, ◌^◌, Bool, true, false, cond, ltb, eqb, eq-eqb, List, [], ◌∷◌, ◌++◌, Option, Some, None, refl, sym, ap, subst, ◌∙◌, arith, inl, inr, ◌⊎◌, append_assoc}
+use Rattle.std.proofs.Common.{lit<, ◌≡◌, ℕ, zero, suc, ◌<◌, ◌+◌, ◌-◌, ◌^◌, Bool, true, false, cond, ltb, eqb, eq-eqb, List, [], ◌∷◌, ◌++◌, Some, None, refl, sym, ap, subst, ◌∙◌, arith, inl, inr, append_assoc}
 use Rattle.std.specs.Prelude.{codes}
 use Rattle.std.specs.Fmt.{decimal}
 use Rattle.std.specs.List.{All, AllByRecursion}
 use Rattle.std.specs.Str.{bytes_eq}
-use Rattle.std.proofs.lemmas.Bool.{lt-ltb, le-ltb, ltb-true, eqb-true, ne_eqb, cases_lt}
+use Rattle.std.proofs.lemmas.Bool.{lt-ltb, le-ltb, ltb-true, eqb-true, ne_eqb}
 use Rattle.std.proofs.lemmas.List.{append-nil}
 use Rattle.std.proofs.lemmas.List.Elements.{All-cons, All-from_recursion}
 use Rattle.std.proofs.lemmas.Slice.Eq.{bytes_eq-Decides}
@@ -17,14 +17,12 @@ use Rattle.netlist_verilog.specs.Wires.{signal_text}
 use Rattle.netlist_verilog.specs.Formulas.{formula_text, comment_text, equation_row}
 use Rattle.netlist_verilog.specs.Equations.{table_formula, comment_of, gate_equation}
 use Rattle.netlist_verilog.proofs.GateRowLemmas.{IsGateBelow}
-use Rattle.line_rows.specs.Words.{◌>>=?◌, number_in, behind_of, before_of, pair_of, made_of}
-use Rattle.line_rows.proofs.Exact.{IsExact, IsWord, is_blank, exact-behind, exact-before, exact-pair, exact-made, number_exact, decimal_word, some_of, some_is, chosen, tested}
+use Rattle.line_rows.proofs.Exact.{IsExact, IsWord, is_blank, exact-behind, exact-before, exact-pair, exact-made, number_exact, decimal_word, some_is, chosen, tested}
 use Rattle.module_reader.specs.declared.gate.Join.{Join}
 use Rattle.module_reader.specs.declared.gate.Join.TheVariants.{And, Xor, Or, Note}
 use Rattle.module_reader.specs.declared.gate.Tail.{Tail}
 use Rattle.module_reader.specs.declared.gate.Tail.TheVariants.{One, Both}
-use Rattle.module_reader.specs.Reading.{signal_in, reference_in}
-use Rattle.module_reader.specs.Gates.{join_in, one_of, both_of, both_in, one_in, tail_in, table_of, ordered, noted, joined, gate_from, function_in, gate_with, gate_in}
+use Rattle.module_reader.specs.Gates.{join_in, one_of, both_of, both_in, one_in, tail_in, ordered, noted, joined, gate_from, function_in, gate_with, gate_in}
 use Rattle.module_reader.proofs.References.{reference_text, signal_exact, signal_word, reference_exact, exact-same}
 
 -- ---- words

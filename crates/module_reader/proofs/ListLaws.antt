@@ -1,8 +1,6 @@
 -- Lists in a line are read exactly, where each item is told from what may follow the list.
-use Rattle.std.proofs.Common.{◌≡◌, ℕ, zero, suc, ◌<◌, ◌≤◌, ◌+◌, Bool, true, false, cond, eqb, List, [], ◌∷◌, ◌++◌, length, Option, Some, None, refl, sym, ap, subst, ◌∙◌, arith, append_assoc, add-one}
-use Rattle.std.specs.Prelude.{codes}
+use Rattle.std.proofs.Common.{◌≡◌, ℕ, zero, suc, ◌<◌, ◌≤◌, ◌+◌, Bool, false, eqb, List, [], ◌∷◌, ◌++◌, Option, Some, None, refl, sym, ap, subst, ◌∙◌, arith, append_assoc}
 use Rattle.std.proofs.lemmas.Bool.{ne_eqb}
-use Rattle.std.proofs.lemmas.List.{append-nil}
 use Rattle.cpog_defs.specs.Orders.{each_below}
 use Rattle.netlist_verilog.specs.Rows.{separator, joined}
 use Rattle.line_rows.specs.Words.{behind}
@@ -25,6 +23,7 @@ pub record IsRun (item : ℕ → List ℕ) (n i : ℕ) (bytes : List ℕ) (x : �
   pub whole : bytes ≡ items_text item count i ++ x.1
 
 run_step : (item : ℕ → List ℕ) (n i : ℕ) (bytes : List ℕ) → ((rest : List ℕ) → IsRun item n (i + 1) rest (run item n (i + 1) rest)) → (o : Option (List ℕ)) → behind (item i) bytes ≡ o → IsRun item (suc n) i bytes (next_or (i, bytes) (λ rest. run item n (i + 1) rest) o)
+unfolding run
 run_step item n i bytes more None e = record { count = 0; few = omega arith; stops = omega arith; whole = refl }
 run_step item n i bytes more (Some rest) e =
     let r = more rest in
@@ -36,6 +35,7 @@ run_step item n i bytes more (Some rest) e =
     }
 
 pub run_takes : (item : ℕ → List ℕ) (n i : ℕ) (bytes : List ℕ) → IsRun item n i bytes (run item n i bytes)
+unfolding run
 run_takes item zero i bytes = record { count = 0; few = omega arith; stops = omega arith; whole = refl }
 run_takes item (suc n) i bytes = run_step item n i bytes (λ rest. run_takes item n (i + 1) rest) (behind (item i) bytes) refl
 
@@ -43,6 +43,7 @@ abbrev stopped : ℕ → List ℕ → ℕ × List ℕ
 stopped i rest = (i, rest)
 
 pub run_again : (item : ℕ → List ℕ) (n i k : ℕ) (rest : List ℕ) → k ≤ n → behind (item (i + k)) rest ≡ None → run item n i (items_text item k i ++ rest) ≡ (i + k, rest)
+unfolding run
 run_again item zero i zero rest le e = ap (λ (j : ℕ). stopped j rest) (omega arith)
 run_again item zero i (suc k) rest le e = absurd (omega (arith, le))
 run_again item (suc n) i zero rest le e =
@@ -52,6 +53,19 @@ run_again item (suc n) i (suc k) rest le e =
     let more : List ℕ = items_text item k (i + 1) ++ rest in
     let there : behind (item i) ((item i ++ items_text item k (i + 1)) ++ rest) ≡ Some more = ap (behind (item i)) (append_assoc (item i) (items_text item k (i + 1)) rest) ∙ behind_again (item i) more in
     rw there (run_again item n (i + 1) k rest (omega (arith, le)) (ap (λ (j : ℕ). behind (item j) rest) (omega arith) ∙ e) ∙ ap (λ (j : ℕ). stopped j rest) (omega arith))
+
+-- one turn of a loop
+pub run_done : (item : ℕ → List ℕ) (n m i : ℕ) (bytes : List ℕ) → n ≡ suc m → behind (item i) bytes ≡ None → run item n i bytes ≡ (i, bytes)
+unfolding run
+run_done item n m i bytes is none = ap (λ (k : ℕ). run item k i bytes) is ∙ ap (next_or (stopped i bytes) (λ rest. run item m (i + 1) rest)) none
+
+pub run_on : (item : ℕ → List ℕ) (n m i : ℕ) (bytes rest : List ℕ) → n ≡ suc m → behind (item i) bytes ≡ Some rest → run item n i bytes ≡ run item m (i + 1) rest
+unfolding run
+run_on item n m i bytes rest is there = ap (λ (k : ℕ). run item k i bytes) is ∙ ap (next_or (stopped i bytes) (λ rest. run item m (i + 1) rest)) there
+
+pub run_none : (item : ℕ → List ℕ) (n i : ℕ) (bytes : List ℕ) → n ≡ 0 → run item n i bytes ≡ (i, bytes)
+unfolding run
+run_none item n i bytes is = ap (λ (k : ℕ). run item k i bytes) is
 
 -- with commas between them
 pub items_joined : (f : ℕ → List ℕ) (k i : ℕ) → items_text (λ j. separator (eqb j 0) ++ f j) k i ≡ joined (eqb i 0) (each_below (λ j. f (i + j) ∷ []) k)
@@ -66,6 +80,12 @@ items_joined f (suc k) i =
     ∙ ap (joined (eqb i 0)) (sym (below_front (λ j. f (i + j) ∷ []) k))
 
 -- ---- steps that each take an item or none
+
+pub steps_on : {S : Type 0} (f : ℕ → S → S) (n m i : ℕ) (s : S) → n ≡ suc m → steps f n i s ≡ steps f m (i + 1) (f i s)
+steps_on f n m i s is = ap (λ (k : ℕ). steps f k i s) is
+
+pub steps_none : {S : Type 0} (f : ℕ → S → S) (n i : ℕ) (s : S) → n ≡ 0 → steps f n i s ≡ s
+steps_none f n i s is = ap (λ (k : ℕ). steps f k i s) is
 
 module _ {S A : Type 0} (put : ℕ → S → A → S) (step : ℕ → List ℕ → A × List ℕ) (t : ℕ → A → List ℕ) (F : ℕ → A → Type 0) where
   abbrev pub one : ℕ → S × List ℕ → S × List ℕ

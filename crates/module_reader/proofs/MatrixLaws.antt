@@ -1,23 +1,22 @@
 -- Arc wires that are declared, as a matrix of bits and as the wires of a netlist.
-use Rattle.std.proofs.Common.{◌≡◌, ℕ, zero, suc, ◌<◌, ◌≤◌, ◌+◌, inl, inr, Bool, true, false, cond, eqb, List, [], ◌∷◌, ◌++◌, length, map, get_or, Option, Some, None, IsSome, is_some, refl, sym, ap, ap₂, subst, ◌∙◌, arith, append_assoc}
+use Rattle.std.proofs.Common.{◌≡◌, ℕ, zero, suc, ◌<◌, ◌+◌, Bool, false, List, [], ◌∷◌, ◌++◌, length, map, get_or, Option, Some, None, is_some, refl, sym, ap, ap₂, subst, ◌∙◌, arith}
 use Rattle.std.specs.Prelude.{codes}
 use Rattle.std.specs.Fmt.{decimal}
-use Rattle.std.proofs.lemmas.Bool.{cases_lt, cases_Bool, both_ways, eqb-true, eq-eqb}
-use Rattle.std.proofs.lemmas.List.{append-nil, length-map, get_or_past}
+use Rattle.std.proofs.lemmas.List.{append-nil, length-map}
 use Rattle.cpog_defs.specs.declared.types.Ref.{Ref}
 use Rattle.cpog_defs.specs.Orders.{each_below}
-use Rattle.handshake_eqs.specs.Netlists.{IsWireOver}
-use Rattle.netlist_verilog.specs.Wires.{Wire, ArcCondition, wire_text}
-use Rattle.netlist_verilog.specs.Rows.{separator, joined, arc_wire}
+use Rattle.netlist_verilog.specs.Wires.{Wire, wire_text}
+use Rattle.netlist_verilog.specs.Rows.{joined, arc_wire}
 use Rattle.netlist_verilog.proofs.WritingLemmas.{joined_append}
 use Rattle.line_rows.proofs.RowLaws.{FitsMany}
-use Rattle.module_reader.specs.Lists.{arc_item, arc_mark, arc_marks_from}
+use Rattle.module_reader.specs.Lists.{arc_mark, arc_marks_from}
 use Rattle.module_reader.specs.Modules.{is_declared}
 use Rattle.module_reader.proofs.RowLaws.{below_front}
 use Rattle.module_reader.proofs.PortLaws.{below_same}
 use Rattle.module_reader.proofs.ArcLaws.{map_below, IsDeclared, AreDeclared, AreAllDeclared}
 use Rattle.module_reader.proofs.ListLaws.{walk_text}
-use Rattle.module_reader.proofs.WireLaws.{push, arc_part, NotOwn, IsRow, IsMatrix, row_text, matrix_text}
+use Rattle.module_reader.specs.Fits.{NotOwn, IsRow, IsMatrix}
+use Rattle.module_reader.proofs.WireLaws.{push, arc_part, row_text, matrix_text}
 
 abbrev Wires : Type 0
 Wires = List (List (Option Ref))
@@ -128,3 +127,7 @@ arcs_are inputs names count wires long rows =
     ∙ below_same _ _ count inner
     ∙ ap (each_below (λ u. row_text (0 + u) (get_or (bits_of wires) u []))) (sym total)
     ∙ sym (walk_below push (arc_marks_from count) row_text (IsRow count) [] 0 (bits_of wires))
+
+-- a row for each operation, as long as that
+pub matrix_square : (count : ℕ) (rows : List (List Bool)) → IsMatrix count rows → (length rows ≡ count) × ((u : ℕ) → u < count → length (get_or rows u []) ≡ count)
+matrix_square count rows h = (fits_length (IsRow count) count 0 rows h, λ u lt. fits_length (NotOwn (0 + u)) count 0 (get_or rows u []) (fit_at (IsRow count) [] count 0 rows h u lt))

@@ -1,41 +1,24 @@
 -- A module is read exactly from its rows.
-use Rattle.std.proofs.Common.{lit<, ◌≡◌, ℕ, zero, suc, ◌<◌, ◌≤◌, ◌+◌, ◌⊎◌, inl, inr, Bool, true, false, cond, ◌&&◌, ◌||◌, eqb, ltb, List, [], ◌∷◌, ◌++◌, length, map, get_or, Option, Some, None, IsSome, is_some, Result, Ok, Err, refl, sym, ap, ap₂, subst, ◌∙◌, arith}
-use Rattle.std.specs.Prelude.{codes, IsTrue}
-use Rattle.std.specs.List.{AllByRecursion, IsDistinct, All}
+use Rattle.std.proofs.Common.{◌≡◌, ℕ, zero, suc, ◌≤◌, ◌+◌, ◌⊎◌, inl, inr, Bool, true, false, cond, ◌||◌, eqb, List, [], ◌∷◌, length, Option, Some, None, is_some, Result, Ok, Err, refl, sym, ap, subst, ◌∙◌, arith}
+use Rattle.std.specs.Prelude.{codes}
 use Rattle.std.specs.Str.{bytes_eq}
-use Rattle.std.specs.FinSet as set
-use Rattle.std.specs.Ordering.{nat_cmp}
-use Rattle.std.proofs.lemmas.Bool.{cases_Bool, cases_eq, cases_lt, both_ways, lt-ltb, eqb-true, eqb-false, eq-eqb}
-use Rattle.std.proofs.lemmas.List.{get_or_past, length-map}
-use Rattle.std.proofs.lemmas.List.Elements.{All-from_recursion, recursion_from_All, All-get_or}
+use Rattle.std.proofs.lemmas.Bool.{cases_Bool, both_ways, lt-ltb, eqb-true}
 use Rattle.std.proofs.lemmas.Slice.Eq.{bytes_eq-Decides}
-use Rattle.cpog_defs.specs.declared.types.Gate.{Gate}
-use Rattle.cpog_defs.specs.declared.types.Ref.{Ref}
-use Rattle.cpog_defs.specs.declared.types.Ref.TheVariants.{Const, Signal}
-use Rattle.cpog_defs.specs.Orders.{Set}
-use Rattle.cpog_defs.specs.Gates.{AreGatesFrom, IsRefOver, signal_count}
-use Rattle.handshake_eqs.specs.Netlists.{Netlist, IsNetlist, IsWireOver, condition_of, wire_of, waits_of}
-use Rattle.line_text.specs.Words.{is_free_name}
-use Rattle.line_text.proofs.TellingLemmas.{AllPass, free_name_passes, heads, tails}
-use Rattle.line_text.specs.Words.{continues_name}
-use Rattle.netlist_verilog.specs.Module.{ModuleValue, IsModule, AreNames}
-use Rattle.netlist_verilog.specs.Rows.{module_lines, port_lines}
+use Rattle.handshake_eqs.specs.Netlists.{Netlist}
+use Rattle.line_text.proofs.TellingLemmas.{heads, tails}
 use Rattle.line_rows.specs.Position.{Position}
-use Rattle.line_rows.specs.Reading.{◌>>=◌, row, line_at, read_or_fault, exactly, then_of, view_of}
+use Rattle.line_rows.specs.Reading.{◌>>=◌, read_or_fault, exactly, view_of}
 use Rattle.line_rows.specs.Either.{fork, either_of}
 use Rattle.line_rows.specs.Words.{behind}
-use Rattle.line_rows.proofs.Exact.{behind_again, behind_takes, none_where}
+use Rattle.line_rows.proofs.Exact.{behind_again, none_where}
 use Rattle.line_rows.proofs.EitherLaws.{Begun, rows-either}
-use Rattle.line_rows.proofs.RowLaws.{at, IsRows, rows-then, rows-view, FitsMany}
-use Rattle.module_reader.specs.Modules.{header_line, inputs_line, outputs_line, ports_at, done_line, last_at, ends_at, netlist_of, netlist_at, no_netlist, declared_at, undeclared_at, declares, body_from, body_at, is_declared, wires_in, gate_room, module_from, module_at, IsPorts}
-use Rattle.module_reader.proofs.RowLaws.{rows-same, SoManyRefs}
-use Rattle.module_reader.proofs.ArcLaws.{IsDeclared, AreDeclared, AreAllDeclared}
-use Rattle.module_reader.proofs.MatrixLaws.{bits_of, fits_count, fit_at, fits_length}
-use Rattle.module_reader.proofs.MatrixLaws as matrices
-use Rattle.module_reader.proofs.PortLaws.{none_behind, ports_lines, ports_rows}
-use Rattle.module_reader.proofs.WireLaws.{NotOwn, IsRow, IsMatrix, IsWires, wires_line, wires_exact}
-use Rattle.module_reader.proofs.RequestLaws.{IsWaits}
-use Rattle.module_reader.proofs.BodyLaws.{AreAllWaits, AreGood, IsNetlistFor, wires_of, IsFull, full_lines, full_at, full_rows, second_of, ends_rows, end_lines}
+use Rattle.line_rows.proofs.RowLaws.{at, IsRows, rows-view, FitsMany}
+use Rattle.module_reader.specs.Modules.{done_line, last_at, ends_at, netlist_at, no_netlist, declared_at, undeclared_at, body_at, wires_in}
+use Rattle.module_reader.proofs.RowLaws.{rows-same}
+use Rattle.module_reader.proofs.PortLaws.{none_behind}
+use Rattle.module_reader.specs.Fits.{NotOwn, IsRow, IsWires}
+use Rattle.module_reader.proofs.WireLaws.{wires_line, wires_exact}
+use Rattle.module_reader.proofs.BodyLaws.{AreGood, wires_of, IsFull, full_at, full_rows, ends_rows}
 use Rattle.module_reader.proofs.TextLaws.{body_lines, full_text, empty_text}
 
 -- ---- a netlist, with its wires declared or with none

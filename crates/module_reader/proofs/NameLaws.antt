@@ -1,6 +1,6 @@
 -- The names of a header are read exactly.
-use Rattle.std.proofs.Common.{◌≡◌, ℕ, zero, suc, ◌<◌, ◌≤◌, ◌+◌, ◌-◌, Bool, true, false, cond, ◌&&◌, ◌||◌, not, eqb, List, [], ◌∷◌, ◌++◌, length, take, drop, get_or, Option, Some, None, refl, sym, ap, ap₂, subst, ◌∙◌, arith, append_assoc, length-append, inl, inr}
-use Rattle.std.specs.Prelude.{codes, IsTrue}
+use Rattle.std.proofs.Common.{◌≡◌, ℕ, zero, suc, ◌≤◌, ◌-◌, Bool, true, false, cond, ◌||◌, not, List, [], ◌∷◌, ◌++◌, length, drop, get_or, Option, Some, None, refl, sym, ap, ap₂, subst, ◌∙◌, arith, append_assoc, length-append, inl, inr}
+use Rattle.std.specs.Prelude.{codes}
 use Rattle.std.specs.List.{position_or_len, before_first, All, AllByRecursion, IsDistinct}
 use Rattle.std.specs.Str.{bytes_eq}
 use Rattle.std.specs.Cmp.Lexicographic.{bytes_decides}
@@ -81,11 +81,13 @@ word_step n done bytes more w rest r whole parts true new = record {
 
 name_step : (n : ℕ) (done : List (List ℕ)) (bytes : List ℕ) → ((w rest : List ℕ) → IsNamed n (done ++ w ∷ []) rest (names_run n (done ++ w ∷ []) rest))
     → (o : Option (List ℕ)) → behind (codes ", a_") bytes ≡ o → IsNamed (suc n) done bytes (next_or (done, bytes) (go_on n done bytes) o)
+unfolding names_run
 name_step n done bytes each None e = none_named (suc n) done bytes
 name_step n done bytes each (Some more) e =
     word_step n done bytes more (before_first is_comma more) (drop (position_or_len is_comma more) more) (each _ _) (behind_takes (codes ", a_") bytes more e) (sym (take-append-drop (position_or_len is_comma more) more)) (is_new_name done (before_first is_comma more)) refl
 
 pub names_take : (n : ℕ) (done : List (List ℕ)) (bytes : List ℕ) → IsNamed n done bytes (names_run n done bytes)
+unfolding names_run
 names_take zero done bytes = none_named zero done bytes
 names_take (suc n) done bytes = name_step n done bytes (λ w rest. names_take n (done ++ w ∷ []) rest) (behind (codes ", a_") bytes) refl
 
@@ -100,6 +102,7 @@ commas_first [] rest f = (f.after, f.comma)
 commas_first (w ∷ ws) rest f = (_, refl)
 
 pub names_again : (n : ℕ) (done ws : List (List ℕ)) (rest : List ℕ) → length ws ≤ n → AreNew done ws → Follows rest → names_run n done (names_text ws ++ rest) ≡ (done ++ ws, rest)
+unfolding names_run
 names_again zero done [] rest le new f = ap (λ (x : List (List ℕ)). named_so x rest) (sym (append-nil done))
 names_again zero done (w ∷ ws) rest le new f = absurd (omega (arith, le))
 names_again (suc n) done [] rest le new f = rw f.no_name (ap (λ (x : List (List ℕ)). named_so x rest) (sym (append-nil done)))
@@ -155,6 +158,7 @@ new_are_distinct done (w ∷ ws) h distinct =
 
 pub distinct_are_new : (done ws : List (List ℕ)) → AllByRecursion (λ w. is_free_name w ≡ true) ws → AreDistinct (done ++ ws) → AreNew done ws
 distinct_are_new done [] free distinct = tt
-distinct_are_new done (w ∷ ws) free distinct =
-    (rw (free.0, is_new done w ws distinct) refl,
-     distinct_are_new (done ++ w ∷ []) ws free.1 (subst AreDistinct (sym (append_assoc done (w ∷ []) ws)) distinct))
+distinct_are_new done (w ∷ ws) free distinct = (
+  rw (free.0, is_new done w ws distinct) refl,
+  distinct_are_new (done ++ w ∷ []) ws free.1 (subst AreDistinct (sym (append_assoc done (w ∷ []) ws)) distinct),
+)

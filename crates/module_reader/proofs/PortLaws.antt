@@ -1,5 +1,5 @@
 -- The lines of the ports are read exactly.
-use Rattle.std.proofs.Common.{lit<, ◌≡◌, ℕ, zero, suc, ◌<◌, ◌≤◌, ◌+◌, Bool, true, false, cond, ◌&&◌, eqb, leb, List, [], ◌∷◌, ◌++◌, length, map, Option, Some, None, Result, refl, sym, ap, ap₂, subst, ◌∙◌, arith, append_assoc}
+use Rattle.std.proofs.Common.{◌≡◌, ℕ, zero, suc, ◌<◌, ◌≤◌, ◌+◌, Bool, true, false, cond, ◌&&◌, eqb, leb, List, [], ◌∷◌, ◌++◌, length, map, Option, Some, None, refl, sym, ap, ap₂, subst, ◌∙◌, arith, append_assoc}
 use Rattle.std.specs.Prelude.{codes}
 use Rattle.std.specs.Fmt.{decimal}
 use Rattle.std.specs.List.{AllByRecursion, IsDistinct}
@@ -11,20 +11,18 @@ use Rattle.cpog_base.specs.Names.{AreDistinct}
 use Rattle.cpog_defs.specs.Orders.{each_below}
 use Rattle.line_text.specs.Words.{is_free_name}
 use Rattle.line_text.proofs.TellingLemmas.{heads, tails}
-use Rattle.netlist_verilog.specs.Wires.{Wire, Signal, Go, Acknowledge, Request, Done, Idle, name_of, signal_text, wire_text}
+use Rattle.netlist_verilog.specs.Wires.{Signal, Go, Acknowledge, Request, Done, Idle, name_of, signal_text, wire_text}
 use Rattle.netlist_verilog.specs.Rows.{separator, joined, signals_from, for_each}
 use Rattle.netlist_verilog.proofs.BelowLemmas.{map_ones}
-use Rattle.netlist_verilog.proofs.WritingLemmas.{is_nil, nil_below, middle, joined_append}
-use Rattle.line_rows.specs.Position.{Position}
-use Rattle.line_rows.specs.Reading.{row, exactly, then_of, view_of}
+use Rattle.netlist_verilog.proofs.WritingLemmas.{nil_below, middle}
 use Rattle.line_rows.specs.Words.{◌>>=?◌, behind}
-use Rattle.line_rows.proofs.Exact.{IsExact, behind_again, behind_takes, some_of, tested, both_true, same_bytes, none_where}
+use Rattle.line_rows.proofs.Exact.{IsExact, behind_again, behind_takes, some_of, tested, both_true, none_where}
 use Rattle.line_rows.proofs.RowLaws.{IsRows, rows-row, rows-then, rows-view, exact-exactly}
 use Rattle.module_reader.specs.Lists.{run, names_run}
 use Rattle.module_reader.specs.Modules.{inputs_text, outputs_text, header_line, inputs_line, outputs_line, input_item, header_end, header_from, header_names, header_in, first_of, ports_at, IsPorts}
 use Rattle.module_reader.proofs.RowLaws.{below_front}
 use Rattle.module_reader.proofs.ListLaws.{items_text, run_takes, run_again, items_joined}
-use Rattle.module_reader.proofs.NameLaws.{names_text, names_take, names_again, AreNew, Follows, new_are_distinct, distinct_are_new}
+use Rattle.module_reader.proofs.NameLaws.{names_text, names_take, names_again, Follows, new_are_distinct, distinct_are_new}
 
 pub none_behind : (front bytes : List ℕ) → ((rest : List ℕ) → bytes ≡ front ++ rest → ⊥) → behind front bytes ≡ None
 none_behind front bytes h = sym (none_where (behind front bytes) (λ rest e. h rest (behind_takes front bytes rest e)))
@@ -38,7 +36,7 @@ below_same {A = A} f g (suc n) h = ap₂ (λ (x y : List A). x ++ y) (below_same
 pub input_word : (inputs k : ℕ) → k < inputs → signal_text inputs (0 + k) ≡ codes "x" ++ decimal (0 + k)
 input_word inputs k lt = let l : (0 + k) < inputs = omega (arith, lt) in rw (lt-ltb (0 + k) inputs l) refl
 
-abbrev acknowledges : List (List ℕ) → List (List ℕ)
+abbrev pub acknowledges : List (List ℕ) → List (List ℕ)
 acknowledges names = each_below (λ v. (codes "a_" ++ name_of names v) ∷ []) (length names)
 
 names_joined : (names : List (List ℕ)) → joined false (acknowledges names) ≡ names_text names
@@ -48,18 +46,23 @@ names_joined (w ∷ ws) = ap (joined false) (below_front (λ v. (codes "a_" ++ n
 positive : (n : ℕ) → 1 ≤ n → eqb n 0 ≡ false
 positive n h = ne_eqb n 0 (λ e. omega (arith, e, h))
 
-pub inputs_split : (inputs : ℕ) (names : List (List ℕ)) → 1 ≤ inputs → inputs_text inputs names ≡ items_text input_item inputs 0 ++ (codes ", go" ++ names_text names)
-inputs_split inputs names some =
-    let signals : List (List ℕ) = each_below (λ k. signal_text inputs (0 + k) ∷ []) inputs in
-    let texts : map (wire_text inputs names) (signals_from 0 inputs ++ (Go ∷ for_each Acknowledge (length names))) ≡ signals ++ (codes "go" ∷ acknowledges names) =
+abbrev pub signals_of : ℕ → List (List ℕ)
+signals_of inputs = each_below (λ k. signal_text inputs (0 + k) ∷ []) inputs
+
+pub inputs_parts : (inputs : ℕ) (names : List (List ℕ)) → 1 ≤ inputs → inputs_text inputs names ≡ joined true (signals_of inputs) ++ (codes ", go" ++ joined false (acknowledges names))
+inputs_parts inputs names some =
+    let texts : map (wire_text inputs names) (signals_from 0 inputs ++ (Go ∷ for_each Acknowledge (length names))) ≡ signals_of inputs ++ (codes "go" ∷ acknowledges names) =
     map-append (wire_text inputs names) (signals_from 0 inputs) (Go ∷ for_each Acknowledge (length names))
     ∙ ap₂ (λ (x y : List (List ℕ)). x ++ (codes "go" ∷ y)) (map_ones (wire_text inputs names) (λ k. Signal (0 + k)) inputs) (map_ones (wire_text inputs names) Acknowledge (length names)) in
-    let same : signals ≡ each_below (λ k. (codes "x" ++ decimal (0 + k)) ∷ []) inputs = below_same _ _ inputs (λ k lt. ap (λ (t : List ℕ). t ∷ []) (input_word inputs k lt)) in
-    ap (joined true) texts
-    ∙ middle (codes "go") signals (acknowledges names) (nil_below (λ k. signal_text inputs (0 + k)) inputs ∙ positive inputs some)
+    ap (joined true) texts ∙ middle (codes "go") (signals_of inputs) (acknowledges names) (nil_below (λ k. signal_text inputs (0 + k)) inputs ∙ positive inputs some)
+
+pub inputs_split : (inputs : ℕ) (names : List (List ℕ)) → 1 ≤ inputs → inputs_text inputs names ≡ items_text input_item inputs 0 ++ (codes ", go" ++ names_text names)
+inputs_split inputs names some =
+    let same : signals_of inputs ≡ each_below (λ k. (codes "x" ++ decimal (0 + k)) ∷ []) inputs = below_same _ _ inputs (λ k lt. ap (λ (t : List ℕ). t ∷ []) (input_word inputs k lt)) in
+    inputs_parts inputs names some
     ∙ ap₂ (λ (x y : List ℕ). x ++ (codes ", go" ++ y)) (ap (joined true) same ∙ sym (items_joined (λ j. codes "x" ++ decimal j) inputs 0)) (names_joined names)
 
-abbrev requests : List (List ℕ) → List (List ℕ)
+abbrev pub requests : List (List ℕ) → List (List ℕ)
 requests names = each_below (λ v. (codes "r_" ++ name_of names v) ∷ []) (length names)
 
 pub outputs_are : (inputs : ℕ) (names : List (List ℕ)) → outputs_text inputs names ≡ joined true (requests names ++ (codes "done" ∷ codes "idle" ∷ []))
@@ -169,3 +172,8 @@ ports_rows =
     (rows-then (rows-row header_exact ((1, []), some_ports)) (λ h _. rows-then (rows-row (exact-exactly (inputs_line h.0 h.1)) (tt, tt)) (λ _ _. rows-row (exact-exactly (outputs_line h.0 h.1)) (tt, tt))))
     (λ h fits. ((h, (tt, tt)), (fits, (tt, tt)), refl, refl))
     (λ x fits. (fits.0, refl))
+
+-- what the parts of the line say
+pub header_by : (line rest : List ℕ) (x : ℕ × List ℕ) → behind (codes "module cpog(") line ≡ Some rest → x ≡ run input_item 8 0 rest → header_names x ≡ header_in line
+unfolding header_in
+header_by line rest x first ran = ap header_names ran ∙ sym (ap (λ (o : Option (List ℕ)). o >>=? λ r. header_names (run input_item 8 0 r)) first)

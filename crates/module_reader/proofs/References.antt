@@ -1,19 +1,19 @@
 -- Signals and references are read exactly.
-use Rattle.std.proofs.Common.{◌≡◌, ℕ, ◌<◌, ◌≤◌, ◌+◌, ◌-◌, ◌^◌, Bool, true, false, cond, ltb, List, [], ◌∷◌, ◌++◌, Option, Some, None, refl, sym, ap, subst, ◌∙◌, arith, inl, inr, ◌⊎◌}
+use Rattle.std.proofs.Common.{◌≡◌, ℕ, ◌<◌, ◌+◌, ◌-◌, ◌^◌, true, false, ltb, List, ◌∷◌, ◌++◌, Option, Some, None, refl, sym, ap, subst, ◌∙◌, arith, inl, inr, ◌⊎◌}
 use Rattle.std.specs.Prelude.{codes}
 use Rattle.std.specs.Fmt.{decimal}
 use Rattle.std.specs.Str.{bytes_eq}
-use Rattle.std.proofs.lemmas.Bool.{cases_lt, lt-ltb, le-ltb, ltb-false}
+use Rattle.std.proofs.lemmas.Bool.{cases_lt, lt-ltb, le-ltb}
 use Rattle.std.proofs.lemmas.List.Elements.{All-cons}
 use Rattle.std.proofs.lemmas.Slice.Eq.{bytes_eq-Decides}
-use Rattle.line_rows.specs.Words.{◌>>=?◌, number_in, behind, before}
-use Rattle.line_rows.proofs.Exact.{IsExact, exact-behind, exact-before, number_exact, behind_again, behind_takes, some_of, some_is, chosen, same_bytes, IsWord, is_blank, decimal_word}
+use Rattle.line_rows.specs.Words.{behind}
+use Rattle.line_rows.proofs.Exact.{IsExact, exact-behind, exact-before, number_exact, behind_again, behind_takes, some_of, some_is, chosen, IsWord, is_blank, decimal_word}
 use Rattle.cpog_defs.specs.declared.types.Ref.{Ref}
 use Rattle.cpog_defs.specs.declared.types.Ref.TheVariants.{Const, Signal}
 use Rattle.cpog_defs.specs.Gates.{IsRefOver}
-use Rattle.netlist_verilog.specs.Wires.{Wire, Condition, signal_text, wire_text, name_of}
-use Rattle.netlist_verilog.specs.Formulas.{formula_text, equation_row}
-use Rattle.netlist_verilog.specs.Equations.{ref_formula, condition_equation}
+use Rattle.netlist_verilog.specs.Wires.{signal_text, name_of}
+use Rattle.netlist_verilog.specs.Formulas.{equation_row}
+use Rattle.netlist_verilog.specs.Equations.{condition_equation}
 use Rattle.module_reader.specs.Reading.{signal_from, signal_in, reference_from, reference_in, condition_in}
 
 abbrev pub reference_text : ℕ → Ref → List ℕ

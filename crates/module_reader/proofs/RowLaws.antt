@@ -1,23 +1,19 @@
 -- The rows of gates and conditions, on the definitions by which they are written.
-use Rattle.std.proofs.Common.{lit<, ◌≡◌, ℕ, zero, suc, ◌<◌, ◌≤◌, ◌+◌, ◌-◌, ◌^◌, false, List, [], ◌∷◌, ◌++◌, length, map, get_or, Result, Ok, Err, refl, sym, ap, subst, ◌∙◌, arith, append_assoc}
+use Rattle.std.proofs.Common.{◌≡◌, ℕ, zero, suc, ◌<◌, ◌≤◌, ◌+◌, ◌^◌, false, List, [], ◌∷◌, ◌++◌, length, map, get_or, Result, Ok, Err, refl, sym, ap, subst, ◌∙◌, arith, append_assoc}
 use Rattle.std.specs.List.{AllByRecursion}
 use Rattle.std.proofs.lemmas.List.{append-nil}
 use Rattle.cpog_defs.specs.declared.types.Gate.{Gate}
 use Rattle.cpog_defs.specs.declared.types.Ref.{Ref}
-use Rattle.cpog_defs.specs.declared.types.Ref.TheVariants.{Const, Signal}
+use Rattle.cpog_defs.specs.declared.types.Ref.TheVariants.{Const}
 use Rattle.cpog_defs.specs.Orders.{each_below}
 use Rattle.cpog_defs.specs.Gates.{AreGatesFrom, IsRefOver}
-use Rattle.netlist_verilog.specs.Wires.{name_of}
-use Rattle.netlist_verilog.specs.Formulas.{Equation, equation_row}
+use Rattle.netlist_verilog.specs.Formulas.{equation_row}
 use Rattle.netlist_verilog.specs.Equations.{gate_equations, gate_equation, condition_equation}
 use Rattle.netlist_verilog.proofs.GateRowLemmas.{IsGateBelow}
 use Rattle.netlist_verilog.proofs.BelowLemmas.{map_ones}
 use Rattle.line_rows.specs.Position.{Position}
-use Rattle.line_rows.specs.Reading.{◌>>=◌, row, many_of, view_of, lines_many}
-use Rattle.line_rows.proofs.Exact.{IsExact}
+use Rattle.line_rows.specs.Reading.{◌>>=◌, lines_many}
 use Rattle.line_rows.proofs.RowLaws.{IsRows, rows-row, rows-view, rows-many, FitsMany}
-use Rattle.module_reader.specs.Reading.{condition_in}
-use Rattle.module_reader.specs.Gates.{gate_in}
 use Rattle.module_reader.specs.Rows.{gates_at, conditions_at}
 use Rattle.module_reader.proofs.References.{condition_text, condition_exact}
 use Rattle.module_reader.proofs.GateLaws.{gate_text, gate_exact}

@@ -1,27 +1,25 @@
 -- The rows of a netlist are those by which a module is written.
-use Rattle.std.proofs.Common.{◌≡◌, ℕ, zero, suc, ◌<◌, ◌≤◌, ◌+◌, ◌-◌, Bool, true, false, cond, ◌&&◌, ◌||◌, eqb, ltb, List, [], ◌∷◌, ◌++◌, length, map, get_or, refl, sym, ap, ap₂, subst, ◌∙◌, arith, append_assoc}
+use Rattle.std.proofs.Common.{◌≡◌, ℕ, zero, suc, ◌<◌, ◌≤◌, ◌+◌, ◌-◌, Bool, true, false, ◌&&◌, eqb, ltb, List, [], ◌∷◌, ◌++◌, length, get_or, refl, sym, ap, ap₂, subst, ◌∙◌, arith, append_assoc}
 use Rattle.std.specs.Prelude.{codes}
 use Rattle.std.specs.Fmt.{decimal}
 use Rattle.std.proofs.lemmas.Bool.{le-ltb, ne_eqb}
 use Rattle.cpog_defs.specs.Orders.{each_below}
-use Rattle.handshake_eqs.specs.Netlists.{Netlist, condition_of}
+use Rattle.handshake_eqs.specs.Netlists.{Netlist}
 use Rattle.netlist_verilog.specs.Module.{ModuleValue}
-use Rattle.netlist_verilog.specs.Wires.{Wire, Signal, name_of, signal_text}
+use Rattle.netlist_verilog.specs.Wires.{name_of, signal_text}
 use Rattle.netlist_verilog.specs.Formulas.{equation_row}
-use Rattle.netlist_verilog.specs.Equations.{done_equation, idle_equation, gate_equations, condition_equation, arc_equations_from, request_equation}
-use Rattle.netlist_verilog.specs.Rows.{separator, joined, wire_texts, inner_wires, arc_wires, wire_lines, equation_rows, equation_lines}
+use Rattle.netlist_verilog.specs.Equations.{done_equation, idle_equation, gate_equations}
+use Rattle.netlist_verilog.specs.Rows.{joined, wire_texts, inner_wires, arc_wires, wire_lines, equation_rows, equation_lines}
 use Rattle.netlist_verilog.proofs.ValueLemmas.{condition_part, arc_part, request_part, end_part}
 use Rattle.netlist_verilog.proofs.WritingLemmas.{is_nil, nil_below, joined_append, inner_texts, wire_line, rows_split}
-use Rattle.line_rows.proofs.RowLaws.{FitsMany}
-use Rattle.module_reader.specs.Lists.{run}
-use Rattle.module_reader.specs.Modules.{gate_item, condition_names, no_netlist, Parts}
+use Rattle.module_reader.specs.Modules.{gate_item, condition_names, no_netlist}
 use Rattle.module_reader.proofs.RowLaws.{gates_lines, conditions_lines}
 use Rattle.module_reader.proofs.ArcLaws.{matrix_lines, AreDeclared, IsDeclared}
 use Rattle.module_reader.proofs.ListLaws.{items_text, items_joined}
 use Rattle.module_reader.proofs.MatrixLaws.{bits_of, arcs_text, arcs_are, fits_length, fit_at}
 use Rattle.module_reader.proofs.PortLaws.{below_same}
-use Rattle.module_reader.proofs.WireLaws.{wires_line, matrix_text, close, IsWires}
-use Rattle.module_reader.proofs.BodyLaws.{requests_lines, end_lines, parts_lines, parts_of, wires_of, IsFull, full_lines, IsNetlistFor}
+use Rattle.module_reader.proofs.WireLaws.{wires_line, matrix_text, close}
+use Rattle.module_reader.proofs.BodyLaws.{requests_lines, end_lines, parts_lines, parts_of, wires_of, IsFull, full_lines}
 use Rattle.module_reader.specs.Modules.{is_declared}
 
 abbrev pub module_of : List (List ℕ) → Netlist → ModuleValue

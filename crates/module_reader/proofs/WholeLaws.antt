@@ -1,7 +1,7 @@
 -- A module is read exactly from its rows, and each text has one first bad line.
-use Rattle.std.proofs.Common.{lit<, ◌≡◌, ℕ, zero, suc, ◌<◌, ◌≤◌, ◌+◌, ◌⊎◌, inl, inr, Bool, true, false, cond, eqb, List, [], ◌∷◌, ◌++◌, length, map, get_or, Option, Some, None, IsSome, is_some, Result, Ok, Err, refl, sym, ap, ap₂, subst, ◌∙◌, arith}
+use Rattle.std.proofs.Common.{◌≡◌, ℕ, ◌<◌, ◌≤◌, ◌+◌, ◌^◌, ◌⊎◌, inl, inr, Bool, true, false, cond, eqb, List, [], ◌∷◌, ◌++◌, length, map, get_or, Option, Some, None, is_some, Result, Ok, Err, refl, sym, ap, ap₂, subst, ◌∙◌, arith}
 use Rattle.std.specs.Prelude.{codes, IsTrue}
-use Rattle.std.specs.List.{AllByRecursion, All}
+use Rattle.std.specs.List.{AllByRecursion}
 use Rattle.std.specs.FinSet as set
 use Rattle.std.specs.Ordering.{nat_cmp}
 use Rattle.std.proofs.lemmas.Bool.{cases_Bool, cases_lt, both_ways, eqb-true, eq-eqb}
@@ -9,31 +9,33 @@ use Rattle.std.proofs.lemmas.List.{get_or_past, length-map}
 use Rattle.std.proofs.lemmas.List.Elements.{All-from_recursion, recursion_from_All, All-get_or, All-from_get_or}
 use Rattle.cpog_defs.specs.declared.types.Gate.{Gate}
 use Rattle.cpog_defs.specs.declared.types.Ref.{Ref}
-use Rattle.cpog_defs.specs.declared.types.Ref.TheVariants.{Const, Signal}
+use Rattle.cpog_defs.specs.declared.types.Ref.TheVariants.{Const}
 use Rattle.cpog_defs.specs.Orders.{Set}
-use Rattle.cpog_defs.specs.Gates.{GateList, AreGatesFrom, IsRefOver, signal_count}
+use Rattle.cpog_defs.specs.Gates.{GateList, AreGatesFrom, IsRefOver}
 use Rattle.handshake_eqs.specs.Netlists.{Netlist, IsNetlist, IsWireOver, condition_of, wire_of, waits_of}
 use Rattle.handshake_eqs.proofs.PartLemmas.{netlist-zero}
 use Rattle.line_text.specs.Words.{is_free_name, continues_name}
 use Rattle.line_text.proofs.TellingLemmas.{AllPass, free_name_passes}
 use Rattle.netlist_verilog.specs.Wires.{Go, Acknowledge, Request, Done, Idle, wire_text}
-use Rattle.netlist_verilog.specs.Module.{ModuleValue, IsModule, AreNames}
+use Rattle.netlist_verilog.specs.Module.{ModuleValue, IsModule}
 use Rattle.netlist_verilog.specs.Rows.{joined, signals_from, for_each, module_lines}
-use Rattle.line_rows.proofs.RowLaws.{IsRows, rows-then, rows-view, FitsMany, whole_found, whole_first_bad}
+use Rattle.line_rows.proofs.RowLaws.{IsRows, rows-then, rows-view, whole_found, whole_first_bad}
 use Rattle.line_rows.specs.declared.fault.ReadError.{ReadError}
 use Rattle.line_rows.specs.declared.fault.ReadError.TheVariants as errors
-use Rattle.line_rows.specs.Reading.{Fails, whole}
+use Rattle.line_rows.specs.Reading.{Fails, Gives, whole}
 use Rattle.line_rows.specs.FirstBad as rows
 use Rattle.text_rows.specs.FirstBad.{IsFirstBad, NoneBegins}
 use Rattle.module_reader.specs.Faults.{IsModuleText}
-use Rattle.module_reader.specs.Modules.{is_declared, no_netlist, gate_room, module_from, module_at, IsPorts}
-use Rattle.module_reader.proofs.RowLaws.{SoManyRefs}
-use Rattle.module_reader.proofs.ArcLaws.{IsDeclared, AreDeclared, AreAllDeclared}
-use Rattle.module_reader.proofs.MatrixLaws.{bits_of, row_at, declared_at, fits_count, fit_at, fits_length}
+use Rattle.module_reader.specs.Modules.{netlist_of, requests_at, body_at, is_declared, no_netlist, gate_room, module_from, module_at, IsPorts}
+use Rattle.module_reader.specs.Rows.{gates_at, conditions_at, arcs_at}
+use Rattle.line_rows.specs.Position.{Position}
+use Rattle.module_reader.proofs.RowLaws.{gates_rows, conditions_rows}
+use Rattle.module_reader.proofs.ArcLaws.{IsDeclared, AreDeclared, arcs_rows}
+use Rattle.module_reader.proofs.MatrixLaws.{matrix_square, bits_of, row_at, declared_at, fits_count, fit_at, fits_length}
 use Rattle.module_reader.proofs.PortLaws.{ports_lines, ports_rows}
-use Rattle.module_reader.proofs.WireLaws.{NotOwn, IsRow, IsMatrix, IsWires}
+use Rattle.module_reader.specs.Fits.{NotOwn, IsRow, IsMatrix, IsWires}
 use Rattle.module_reader.proofs.RequestLaws.{IsWaits}
-use Rattle.module_reader.proofs.BodyLaws.{AreAllWaits, AreGood, IsNetlistFor, wires_of, IsFull}
+use Rattle.module_reader.proofs.BodyLaws.{requests_rows, room_ahead, full_made, AreGood, IsNetlistFor, wires_of, IsFull}
 use Rattle.module_reader.proofs.TextLaws.{module_of, body_lines}
 use Rattle.module_reader.proofs.ModuleLaws.{IsBody, body_rows}
 
@@ -90,8 +92,7 @@ full_of names n is some =
     let wired : (u : ℕ) → u < count → AreDeclared signals (is_declared bits) count (0 + u) (get_or n.wires u []) = λ u lt.
     fits_count (λ v w. IsDeclared signals (is_declared bits (0 + u) v) w) None count 0 (get_or n.wires u []) (size u lt) (λ v lv. (sym (bit u v), net.wires_over u v)) in
     let waits : (v : ℕ) → v < count → IsWaits names bits (0 + v) (get_or n.waits v set.empty) = λ v lv u h.
-    let there : is_some (wire_of n u v) ≡ true = net.declared u v h in
-    (
+    let there : is_some (wire_of n u v) ≡ true = net.declared u v h in (
       elim (cases_lt u count) [ inl l ↦ l | inr g ↦ absurd (both_ways (is_some (wire_of n u v)) (ap is_some (none_past n net u v (omega (arith, g, is.one_name_each)))) there) ],
       ap (is_declared bits u) (omega arith) ∙ declared_at n.wires u v ∙ there,
     ) in
@@ -101,10 +102,19 @@ full_of names n is some =
         matrix = fits_count (IsRow count) [] count 0 bits (length-map n.wires (λ row. map is_some row) ∙ long) row;
         some = some;
       };
-      netlist = (refl, ((is.gates, refl), ((conditions, sym is.one_name_each), (
-        fits_count (λ u ws. AreDeclared signals (is_declared bits) count u ws) [] count 0 n.wires long wired,
-        (fits_count (IsWaits names bits) set.empty count 0 n.waits (net.waits ∙ sym is.one_name_each) waits, tt),
-      ))));
+      netlist = (
+        refl,
+        (
+          (is.gates, refl),
+          (
+            (conditions, sym is.one_name_each),
+            (
+              fits_count (λ u ws. AreDeclared signals (is_declared bits) count u ws) [] count 0 n.wires long wired,
+              (fits_count (IsWaits names bits) set.empty count 0 n.waits (net.waits ∙ sym is.one_name_each) waits, tt),
+            ),
+          ),
+        ),
+      );
     }
 
 nil_is : {A : Type 0} (xs : List A) → length xs ≡ 0 → xs ≡ []
@@ -213,6 +223,37 @@ module_made inputs (w ∷ ws) n ports full = full_module inputs (w ∷ ws) n por
 module_made inputs [] n ports (inl full) = full_module inputs [] n ports full
 module_made inputs [] n ports (inr small) = subst (λ (x : Netlist). IsModule (module_of [] x) × (x.gates.inputs ≡ inputs)) (sym small) (from_small inputs ports, refl)
 
+-- the parts that were read make a netlist
+pub parts_netlist : (inputs : ℕ) (names : List (List ℕ)) (d : ℕ × List (List Bool)) (p0 p1 p2 p3 p4 : Position) (gates : List Gate) (conditions : List Ref) (wires : List (List (Option Ref))) (waits : List Set) → IsPorts (inputs, names) → IsWires inputs names d
+    → gates_at inputs d.0 p0 ≡ Ok (gates, p1) → conditions_at inputs d.0 names p1 ≡ Ok (conditions, p2) → arcs_at inputs d.0 (is_declared d.1) (length names) p2 ≡ Ok (wires, p3) → requests_at names d.1 p3 ≡ Ok (waits, p4)
+    → IsNetlist (netlist_of inputs gates conditions wires waits)
+parts_netlist inputs names d p0 p1 p2 p3 p4 gates conditions wires waits ports w e1 e2 e3 e4 =
+    let n : Netlist = netlist_of inputs gates conditions wires waits in
+    let good = good_of (inputs, names) ports in
+    let ahead = room_ahead inputs d.0 ports.some ports.few w.few in
+    let small : inputs + d.0 < 2 ^ 32 = omega (arith, ahead.small) in
+    let fits : IsNetlistFor inputs names d n = (
+      refl,
+      (
+        ((gates_rows inputs d.0 names ahead).takes p0 (gates, p1) e1).0,
+        (
+          ((conditions_rows inputs d.0 names small).takes p1 (conditions, p2) e2).0,
+          (
+            ((arcs_rows inputs d.0 names (is_declared d.1) (length names) small).takes p2 (wires, p3) e3).0,
+            (((requests_rows inputs names d.1 good.pass good.distinct).takes p3 (waits, p4) e4).0, tt),
+          ),
+        ),
+      ),
+    ) in
+    let same : wires_of n ≡ d = full_made inputs names d n w fits in
+    let full : IsFull inputs names n = subst (λ (x : ℕ × List (List Bool)). IsWires inputs names x → IsNetlistFor inputs names x n → IsFull inputs names n) same (λ a b. record { wires = a; netlist = b }) w fits in
+    (from_full names n ports full).netlist
+
+-- and what was read behind the ports a module
+pub body_module : (inputs : ℕ) (names : List (List ℕ)) (p : Position) (n : Netlist) (q : Position) → IsPorts (inputs, names) → body_at inputs names p ≡ Ok (n, q) → IsModule (module_of names n)
+body_module inputs names p n q ports e =
+    (module_made inputs names n ports ((body_rows inputs names ports.some ports.few (good_of (inputs, names) ports)).takes p (n, q) e).0).0
+
 -- ---- its lines
 
 lines_split : (names : List (List ℕ)) (n : Netlist) → length names ≡ length n.conditions → module_lines (module_of names n) ≡ ports_lines (n.gates.inputs, names) ++ body_lines names n
@@ -239,8 +280,8 @@ module_law =
     rows-view module_from IsModule module_lines (rows-then ports_rows (λ h fits. body_rows h.0 h.1 fits.some fits.few (good_of h fits)))
     (λ m is. (((m.netlist.gates.inputs, m.names), m.netlist), (ports_of m.names m.netlist is, body_of m.names m.netlist is), lines_split m.names m.netlist is.one_name_each, refl))
     (λ x fits.
-        let made = module_made x.0.0 x.0.1 x.1 fits.0 fits.1 in
-        (made.0, lines_split x.0.1 x.1 made.0.one_name_each ∙ ap (λ (k : ℕ). ports_lines (k, x.0.1) ++ body_lines x.0.1 x.1) made.1))
+    let made = module_made x.0.0 x.0.1 x.1 fits.0 fits.1 in
+    (made.0, lines_split x.0.1 x.1 made.0.one_name_each ∙ ap (λ (k : ℕ). ports_lines (k, x.0.1) ++ body_lines x.0.1 x.1) made.1))
 
 -- ---- a whole text
 
@@ -258,3 +299,36 @@ is_first lines k given =
 
 pub fault_first : (lines : List (List ℕ)) (e : ReadError) (k : ℕ) → e ≡ errors.BadLine k → Fails e (whole module_at lines) → IsFirstBad IsModuleText lines k
 fault_first lines e k is h = is_first lines k (subst (λ (x : ReadError). Fails x (whole module_at lines)) is h)
+
+-- ---- what the functions below are asked
+
+pub gates_small : (inputs count : ℕ) → count ≤ gate_room inputs → count < 2 ^ 30
+gates_small inputs count h = let lt = room_small inputs count h in omega (arith, lt)
+
+-- the same, in the words of the function
+pub parts_made : (inputs : ℕ) (names : List (List ℕ)) (d : ℕ × List (List Bool)) (p0 p1 p2 p3 p4 : Position) (g : GateList) (cs cs' : List Ref) (ws ws' : List (List (Option Ref))) (ss ss' : List Set) → IsPorts (inputs, names) → IsWires inputs names d
+    → g.inputs ≡ inputs → cs' ≡ cs → ws' ≡ ws → ss' ≡ ss
+    → gates_at inputs d.0 p0 ≡ Ok (g.gates, p1) → conditions_at inputs d.0 names p1 ≡ Ok (cs, p2) → arcs_at inputs d.0 (is_declared d.1) (length names) p2 ≡ Ok (ws, p3) → requests_at names d.1 p3 ≡ Ok (ss, p4)
+    → IsNetlist (record { gates = g; conditions = cs'; wires = ws'; waits = ss' })
+parts_made inputs names d p0 p1 p2 p3 p4 g cs cs' ws ws' ss ss' ports w ei ec ew es e1 e2 e3 e4 =
+    subst IsNetlist (λ i. record { gates = record { inputs = sym ei i; gates = g.gates }; conditions = sym ec i; wires = sym ew i; waits = sym es i })
+    (parts_netlist inputs names d p0 p1 p2 p3 p4 g.gates cs ws ss ports w e1 e2 e3 e4)
+
+-- ---- what the rows are asked of a matrix
+
+pub record Asked {X : Type 0} (f : X → List Bool) (count : ℕ) (xs : List X) : Type 0 where
+  pub total : length xs ≡ count
+  pub few : length xs ≤ 128
+  pub square : (u : ℕ) → u < length xs → length (get_or (map f xs) u []) ≡ length xs
+
+pub asked : {X : Type 0} (f : X → List Bool) (count : ℕ) (xs ys : List X) → ys ≡ xs → IsMatrix count (map f xs) → count ≤ 128 → Asked f count ys
+asked f count xs ys same m few =
+    let total : length xs ≡ count = sym (length-map xs f) ∙ (matrix_square count (map f xs) m).0 in
+    subst (Asked f count) (sym same) (record {
+      total = total;
+      few = omega (arith, total, few);
+      square = λ u lt. (matrix_square count (map f xs) m).1 u (omega (arith, lt, total)) ∙ sym total;
+    })
+
+pub gives_at : {X Y : Type 0} (view : X → Y) (r : Result X ReadError) (a b : Result Y ℕ) → a ≡ b → Gives view r a → Gives view r b
+gives_at view r a b e h = subst (Gives view r) e h

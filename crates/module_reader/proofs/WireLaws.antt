@@ -1,26 +1,25 @@
 -- The line of the inner wires is read exactly.
-use Rattle.std.proofs.Common.{lit<, ◌≡◌, ℕ, zero, suc, ◌<◌, ◌≤◌, ◌+◌, ◌^◌, ◌⊎◌, inl, inr, Bool, true, false, cond, ◌&&◌, ◌||◌, eqb, ltb, List, [], ◌∷◌, ◌++◌, length, map, get_or, Option, Some, None, refl, sym, ap, ap₂, subst, ◌∙◌, arith, append_assoc}
+use Rattle.std.proofs.Common.{◌≡◌, ℕ, zero, suc, ◌<◌, ◌≤◌, ◌+◌, ◌⊎◌, inl, inr, Bool, true, false, cond, ◌&&◌, ◌||◌, eqb, ltb, List, [], ◌∷◌, ◌++◌, length, Option, Some, None, refl, sym, ap, ap₂, subst, ◌∙◌, arith, append_assoc}
 use Rattle.std.specs.Prelude.{codes}
 use Rattle.std.specs.Fmt.{decimal}
 use Rattle.std.specs.Str.{bytes_eq}
-use Rattle.std.proofs.lemmas.Bool.{cases_eq, cases_Bool, both_ways, ne_eqb, eqb-true, lt-ltb, ltb-true}
+use Rattle.std.proofs.lemmas.Bool.{cases_Bool, both_ways, ne_eqb, eqb-true, lt-ltb, ltb-true}
 use Rattle.std.proofs.lemmas.Fmt.{decimal_injective}
 use Rattle.std.proofs.lemmas.Slice.Eq.{bytes_eq-Decides}
 use Rattle.line_text.specs.Words.{continues_name}
 use Rattle.line_text.proofs.TellingLemmas.{heads, tails, words_told, decimal_continues}
 use Rattle.netlist_verilog.proofs.WordLemmas.{decimal_told}
 use Rattle.line_rows.specs.Words.{◌>>=?◌, behind}
-use Rattle.line_rows.proofs.Exact.{IsExact, behind_again, behind_takes, some_of, tested, both_true, same_bytes}
-use Rattle.line_rows.proofs.RowLaws.{FitsMany}
-use Rattle.module_reader.specs.Lists.{next_or, is_comma, steps, ends_item, mark, arc_item, arc_mark, with_mark, arc_marks_from, arc_marks}
-use Rattle.cpog_defs.specs.Orders.{each_below}
+use Rattle.line_rows.proofs.Exact.{IsExact, behind_again, behind_takes, some_of, tested, both_true}
+use Rattle.module_reader.specs.Lists.{next_or, is_comma, ends_item, mark, arc_item, arc_mark, arc_marks_from, arc_marks}
 use Rattle.netlist_verilog.specs.Wires.{name_of}
 use Rattle.netlist_verilog.specs.Rows.{separator, joined}
 use Rattle.module_reader.specs.Lists.{run}
 use Rattle.module_reader.specs.Modules.{gate_item, gate_room, condition_names, wires_from, wires_behind, wires_in}
+use Rattle.module_reader.specs.Fits.{NotOwn, IsRow, IsMatrix, IsWires}
 use Rattle.module_reader.proofs.RowLaws.{below_front}
 use Rattle.module_reader.proofs.PortLaws.{none_behind}
-use Rattle.module_reader.proofs.ListLaws.{items_text, run_takes, run_again, puts, walk_text, IsWalk, walk_takes, Again, walk_keeps, walk_again}
+use Rattle.module_reader.proofs.ListLaws.{items_text, run_takes, run_again, puts, walk_text, walk_takes, Again, walk_keeps, walk_again}
 
 -- ---- one item
 
@@ -46,10 +45,6 @@ marked item bytes (Some rest) e = step (ends_item rest)
     step true = behind_takes item bytes rest e
     step false = refl
 
--- none leads from an operation to itself
-abbrev pub NotOwn : ℕ → ℕ → Bool → Type 0
-NotOwn u v b = eqb u v ≡ true → b ≡ false
-
 pub arc_mark_takes : (u v : ℕ) (bytes : List ℕ) → NotOwn u v (arc_mark u v bytes).0 × (bytes ≡ arc_part u v (arc_mark u v bytes).0 ++ (arc_mark u v bytes).1)
 arc_mark_takes u v bytes = step (eqb u v) refl
   where
@@ -64,10 +59,15 @@ arc_mark_takes u v bytes = step (eqb u v) refl
 
 ends_name : (rest : List ℕ) → ends_item rest ≡ true → (c : ℕ) × (r : List ℕ) × (rest ≡ c ∷ r) × (continues_name c ≡ false)
 ends_name [] h = absurd cc
-ends_name (c ∷ r) h = (c, r, refl, elim (cases_Bool (is_comma c)) [
-  | inl is ↦ ap continues_name (eqb-true c 44 is)
-  | inr isnt ↦ ap continues_name (eqb-true c 59 (last (is_comma c) (eqb c 59) isnt h))
-])
+ends_name (c ∷ r) h = (
+  c,
+  r,
+  refl,
+  elim (cases_Bool (is_comma c)) [
+    | inl is ↦ ap continues_name (eqb-true c 44 is)
+    | inr isnt ↦ ap continues_name (eqb-true c 59 (last (is_comma c) (eqb c 59) isnt h))
+  ],
+)
   where
     last : (a b : Bool) → a ≡ false → (a || b) ≡ true → b ≡ true
     last false b p q = q
@@ -169,9 +169,6 @@ row_step u v bytes = arc_mark u v bytes
 abbrev pub row_text : ℕ → List Bool → List ℕ
 row_text u bs = walk_text push (arc_mark u) (arc_part u) (NotOwn u) 0 bs
 
-abbrev pub IsRow : ℕ → ℕ → List Bool → Type 0
-IsRow count u bs = FitsMany (NotOwn u) (λ v _. v + 1) count 0 bs
-
 row_laws : (count u : ℕ) → u < 128 → count ≤ 128 → Again push (arc_mark u) (arc_part u) (NotOwn u) (Left u) count
 row_laws count u hu few = record {
   read = λ v b rest lt fits left. arc_read u v b rest hu (omega (arith, lt, few)) fits left;
@@ -197,9 +194,6 @@ row_takes count u bytes =
     (subst (IsRow count u) (sym same) w.fits, w.whole ∙ ap (λ (xs : List Bool). row_text u xs ++ (arc_marks_from count u bytes).1) (sym same))
 
 -- ---- those of all
-
-abbrev pub IsMatrix : ℕ → List (List Bool) → Type 0
-IsMatrix count rows = FitsMany (IsRow count) (λ u _. u + 1) count 0 rows
 
 abbrev pub matrix_text : ℕ → List (List Bool) → List ℕ
 matrix_text count rows = walk_text push (arc_marks_from count) row_text (IsRow count) 0 rows
@@ -228,12 +222,6 @@ matrix_takes count bytes =
 
 abbrev pub wires_line : List (List ℕ) → ℕ × List (List Bool) → List ℕ
 wires_line names d = codes "  wire " ++ (items_text gate_item d.0 0 ++ (condition_names (eqb d.0 0) names ++ (matrix_text (length names) d.1 ++ close)))
-
--- a few gates, and a bit for each two operations; and one wire at least
-pub record IsWires (inputs : ℕ) (names : List (List ℕ)) (d : ℕ × List (List Bool)) : Type 0 where
-  pub few : d.0 ≤ gate_room inputs
-  pub matrix : IsMatrix (length names) d.1
-  pub some : 0 < d.0 + length names
 
 conditions_first : (first : Bool) (w : List ℕ) (ws : List (List ℕ)) → (r : List ℕ) × (condition_names first (w ∷ ws) ≡ separator first ++ (99 ∷ r))
 conditions_first first w ws = (_, ap (joined first) (below_front (λ v. (codes "c_" ++ name_of (w ∷ ws) v) ∷ []) (length ws)))
@@ -319,3 +307,9 @@ wires_take inputs names line d e =
 
 pub wires_exact : (inputs : ℕ) (names : List (List ℕ)) → length names ≤ 128 → IsExact (IsWires inputs names) (wires_line names) (wires_in inputs names)
 wires_exact inputs names few = record { again = λ d fits. wires_again inputs names d.0 d.1 few fits; takes = λ line d e. wires_take inputs names line d e }
+
+-- what the parts of the line say
+pub wires_by : (inputs limit : ℕ) (names : List (List ℕ)) (line rest : List ℕ) (x : ℕ × List ℕ) → behind (codes "  wire ") line ≡ Some rest → limit ≡ gate_room inputs → x ≡ run gate_item limit 0 rest → wires_behind names x ≡ wires_in inputs names line
+unfolding wires_in
+wires_by inputs limit names line rest x first room ran =
+    ap (wires_behind names) (ran ∙ ap (λ (k : ℕ). run gate_item k 0 rest) room) ∙ sym (ap (λ (o : Option (List ℕ)). o >>=? λ r. wires_behind names (run gate_item (gate_room inputs) 0 r)) first)

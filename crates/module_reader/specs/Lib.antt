@@ -5,3 +5,5 @@ pub mod Lists
 pub mod Modules
 pub mod Faults
 pub mod Laws
+pub mod Values
+pub mod Fits

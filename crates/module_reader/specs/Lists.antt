@@ -1,5 +1,5 @@
 -- How lists in a line are read: item by item, as long as the next one stands there.
-use Rattle.std.specs.Prelude.{ℕ, zero, suc, ◌+◌, ◌==◌, ◌&&◌, ◌||◌, not, Bool, true, false, List, [], ◌∷◌, ◌++◌, length, drop, Option, None, Some, codes, if◌then◌else◌}
+use Rattle.std.specs.Prelude.{ℕ, zero, suc, ◌+◌, ◌==◌, ◌&&◌, ◌||◌, not, Bool, true, false, List, [], ◌∷◌, ◌++◌, drop, Option, None, Some, codes, if◌then◌else◌}
 use Rattle.std.specs.Fmt.{decimal}
 use Rattle.std.specs.List.{position_or_len, before_first}
 use Rattle.std.specs.FinSet as set
@@ -14,7 +14,7 @@ next_or stop go None = stop
 next_or stop go (Some rest) = go rest
 
 -- as many numbered items from i on as stand there, at most n: where it stops, and what is left
-abbrev pub run : (ℕ → List ℕ) → ℕ → ℕ → List ℕ → ℕ × List ℕ
+unfoldable pub run : (ℕ → List ℕ) → ℕ → ℕ → List ℕ → ℕ × List ℕ
 run item zero i bytes = (i, bytes)
 run item (suc n) i bytes = next_or (i, bytes) (λ rest. run item n (i + 1) rest) (behind (item i) bytes)
 
@@ -26,7 +26,7 @@ abbrev pub is_new_name : List (List ℕ) → List ℕ → Bool
 is_new_name done w = is_free_name w && not (has_text done w)
 
 -- as many new names behind commas as stand there, at most n
-abbrev pub names_run : ℕ → List (List ℕ) → List ℕ → List (List ℕ) × List ℕ
+unfoldable pub names_run : ℕ → List (List ℕ) → List ℕ → List (List ℕ) × List ℕ
 names_run zero done bytes = (done, bytes)
 names_run (suc n) done bytes = next_or (done, bytes) (λ more. if is_new_name done (before_first is_comma more) then names_run n (done ++ before_first is_comma more ∷ []) (drop (position_or_len is_comma more) more) else (done, bytes)) (behind (codes ", a_") bytes)
 

@@ -1,5 +1,5 @@
 -- How a module is read from its lines.
-use Rattle.std.specs.Prelude.{◌≡◌, ℕ, ◌≤◌, ◌+◌, ◌==◌, ◌&&◌, ◌||◌, nat_le, nat_lt, Bool, true, false, List, [], ◌∷◌, ◌++◌, length, map, slice_index_or, is_some, Option, None, Some, Result, Ok, Err, codes, if◌then◌else◌}
+use Rattle.std.specs.Prelude.{◌≡◌, ℕ, ◌≤◌, ◌+◌, ◌==◌, ◌&&◌, ◌||◌, nat_le, nat_lt, Bool, true, false, List, [], ◌∷◌, ◌++◌, length, map, slice_index_or, is_some, Option, None, Some, Result, Ok, codes, if◌then◌else◌}
 use Rattle.std.specs.Fmt.{decimal}
 use Rattle.std.specs.List.{AllByRecursion}
 use Rattle.std.specs.Str.{bytes_eq}
@@ -10,14 +10,14 @@ use Rattle.cpog_defs.specs.declared.types.Gate.{Gate}
 use Rattle.cpog_defs.specs.declared.types.Ref.{Ref}
 use Rattle.cpog_defs.specs.Orders.{Set, each_below}
 use Rattle.handshake_eqs.specs.Netlists.{Netlist}
-use Rattle.netlist_verilog.specs.Wires.{Wire, Signal, Go, Acknowledge, Request, Done, Idle, Condition, name_of, wire_text}
-use Rattle.netlist_verilog.specs.Formulas.{formula_text, tightness, grouped, equation_row}
-use Rattle.netlist_verilog.specs.Equations.{arc_formula, done_equation, idle_equation}
+use Rattle.netlist_verilog.specs.Wires.{Go, Acknowledge, Request, Done, Idle, name_of, wire_text}
+use Rattle.netlist_verilog.specs.Formulas.{equation_row}
+use Rattle.netlist_verilog.specs.Equations.{done_equation, idle_equation}
 use Rattle.netlist_verilog.specs.Module.{ModuleValue}
 use Rattle.netlist_verilog.specs.Rows.{separator, joined, signals_from, for_each}
 use Rattle.line_rows.specs.Position.{Position}
 use Rattle.line_rows.specs.Reading.{◌>>=◌, row, line_at, read_or_fault, exactly, then_of, view_of, many_of}
-use Rattle.line_rows.specs.Words.{◌>>=?◌, behind, behind_of}
+use Rattle.line_rows.specs.Words.{◌>>=?◌, behind}
 use Rattle.module_reader.specs.Lists.{run, names_run, steps, arc_marks, wait_mark, with_wait}
 use Rattle.module_reader.specs.Rows.{gates_at, conditions_at, arcs_at}
 
@@ -100,24 +100,32 @@ is_declared arcs u v = slice_index_or (slice_index_or arcs u []) v false
 
 -- ---- requests
 
-abbrev pub wait_item : ℕ → List (List ℕ) → ℕ → ℕ → List ℕ
-wait_item inputs names v u = codes " & " ++ grouped 3 (tightness (arc_formula v u)) (formula_text inputs names (arc_formula v u))
+-- what the line has for an operation that is waited for
+abbrev pub wait_words : List ℕ → ℕ → ℕ → List ℕ
+wait_words name u v = codes " & (a_" ++ (name ++ (codes " | ~c_" ++ (name ++ (codes " | ~e" ++ (decimal u ++ (codes "_" ++ (decimal v ++ codes ")")))))))
 
-abbrev pub waits_after : ℕ → List (List ℕ) → List (List Bool) → ℕ → List ℕ → Set × List ℕ
-waits_after inputs names arcs v bytes = steps (λ u s. with_wait u s.0 (wait_mark (is_declared arcs u v) (wait_item inputs names v u) s.1)) (length names) 0 (set.empty, bytes)
+abbrev pub wait_item : List (List ℕ) → ℕ → ℕ → List ℕ
+wait_item names v u = wait_words (name_of names u) u v
+
+abbrev pub waits_after : List (List ℕ) → List (List Bool) → ℕ → List ℕ → Set × List ℕ
+waits_after names arcs v bytes = steps (λ u s. with_wait u s.0 (wait_mark (is_declared arcs u v) (wait_item names v u) s.1)) (length names) 0 (set.empty, bytes)
 
 abbrev pub waits_from : Set × List ℕ → Option Set
 waits_from x = if bytes_eq x.1 (codes ";") then Some x.0 else None
 
+-- what stands before them
+abbrev pub front_words : List ℕ → List ℕ
+front_words name = codes "  assign r_" ++ (name ++ (codes " = go & c_" ++ name))
+
 abbrev pub request_front : List (List ℕ) → ℕ → List ℕ
-request_front names v = codes "  assign r_" ++ (name_of names v ++ (codes " = go & c_" ++ name_of names v))
+request_front names v = front_words (name_of names v)
 
 -- the operations that v waits for
-unfoldable pub request_in : ℕ → List (List ℕ) → List (List Bool) → ℕ → List ℕ → Option Set
-request_in inputs names arcs v line = behind (request_front names v) line >>=? λ rest. waits_from (waits_after inputs names arcs v rest)
+unfoldable pub request_in : List (List ℕ) → List (List Bool) → ℕ → List ℕ → Option Set
+request_in names arcs v line = behind (request_front names v) line >>=? λ rest. waits_from (waits_after names arcs v rest)
 
-abbrev pub requests_at : ℕ → List (List ℕ) → List (List Bool) → Position → Result (List Set × Position) ℕ
-requests_at inputs names arcs = many_of (λ v. row (request_in inputs names arcs v)) (λ v _. v + 1) (length names) 0
+abbrev pub requests_at : List (List ℕ) → List (List Bool) → Position → Result (List Set × Position) ℕ
+requests_at names arcs = many_of (λ v. row (request_in names arcs v)) (λ v _. v + 1) (length names) 0
 
 -- ---- the whole
 
@@ -151,11 +159,15 @@ netlist_from inputs x = netlist_of inputs x.0 x.1.0 x.1.1.0 x.1.1.1.0
 unfoldable pub netlist_at : ℕ → List (List ℕ) → ℕ × List (List Bool) → Position → Result (Netlist × Position) ℕ
 netlist_at inputs names d =
     view_of (netlist_from inputs) (then_of (gates_at inputs d.0) (λ _. then_of (conditions_at inputs d.0 names) (λ _.
-    then_of (arcs_at inputs d.0 (is_declared d.1) (length names)) (λ _. then_of (requests_at inputs names d.1) (λ _. ends_at inputs names)))))
+    then_of (arcs_at inputs d.0 (is_declared d.1) (length names)) (λ _. then_of (requests_at names d.1) (λ _. ends_at inputs names)))))
 
 -- a netlist with nothing in it
 abbrev pub no_netlist : ℕ → Netlist
 no_netlist inputs = netlist_of inputs [] [] [] []
+
+-- a module with these inputs and names, for texts that depend on no more
+abbrev pub plain_module : ℕ → List (List ℕ) → ModuleValue
+plain_module inputs names = record { names = names; netlist = no_netlist inputs }
 
 -- the netlist from the line of its inner wires on
 abbrev pub declared_at : ℕ → List (List ℕ) → List ℕ → Position → Result (Netlist × Position) ℕ

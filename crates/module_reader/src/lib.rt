@@ -6,14 +6,21 @@
 //! `modules_are_rows` says of this that it is exact.
 #![tactic(auto)]
 
+mod assembly;
+mod ends;
 mod gate;
 mod laws;
+mod lists;
 mod module;
+mod ports;
+mod printed;
+mod requests;
 mod rows;
+mod wires;
 mod words;
 
-pub use gate::{Join, Tail, function_of, gate_of};
+pub use gate::{Join, Tail};
 pub use laws::modules_are_rows;
 pub use module::{ModuleFault, module_rows, read_module};
-pub use rows::{conditions_of, gates_of};
-pub use words::{condition_of, reference_of, signal_of};
+pub use ports::Ports;
+pub use wires::Declared;

@@ -1,10 +1,10 @@
-use Rattle.std.proofs.Common.{◌≡◌, ℕ, ◌-◌, ◌+◌, suc, arith, ◌++◌, [], ◌∷◌, length}
+use Rattle.std.proofs.Common.{◌≡◌, ◌-◌, ◌+◌, suc, arith, length}
 use Rattle.std.proofs.lemmas.Result.{err_from_is_err_and}
 use Rattle.netlist_verilog.specs.Wires.{name_of}
 use Rattle.line_rows.specs.Reading.{row}
 use Rattle.line_rows.proofs.Loops.{goes_on, stops}
 use Rattle.module_reader.specs.Reading.{condition_in}
-use Rattle.module_reader.proofs.rows.conditions_of.Goals as goal
+use Rattle.module_reader.proofs.rows.conditions_rows.Goals as goal
 
 pub returns-in_err-condition : goal.returns-in_err-condition
 returns-in_err-condition c =
