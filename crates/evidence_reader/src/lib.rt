@@ -11,3 +11,6 @@ mod places;
 mod shown;
 
 pub use shown::{Shown, shown_rows};
+
+#[cfg(test)]
+mod tests;

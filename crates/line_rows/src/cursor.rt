@@ -5,7 +5,7 @@ ghost use Rattle.line_text.specs.Lines.{lines_of};
 ghost use Rattle.line_rows.specs.Reading.{Gives, line_at, none_left, row, exactly};
 
 use crate::fault::ReadError;
-use line_text::next_line;
+use crate::line::next_line;
 use std::marker::Model;
 
 /// The lines of a text, one after another.
