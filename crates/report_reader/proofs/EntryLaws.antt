@@ -122,10 +122,10 @@ graph_fits signals n ops es len over h = record {
 abbrev pub entry_unless_zero : ℕ → ℕ → Ref → List ArcLine
 entry_unless_zero u v r = cond (is_zero r) [] ((record { first = u; second = v; condition = r }) ∷ [])
 
-abbrev row_entries : (ℕ → ℕ → Ref) → ℕ → ℕ → ℕ → List ArcLine
+abbrev pub row_entries : (ℕ → ℕ → Ref) → ℕ → ℕ → ℕ → List ArcLine
 row_entries f u = forward (λ v. entry_unless_zero u v (f u v))
 
-abbrev all_entries : ℕ → (ℕ → ℕ → Ref) → ℕ → ℕ → List ArcLine
+abbrev pub all_entries : ℕ → (ℕ → ℕ → Ref) → ℕ → ℕ → List ArcLine
 all_entries n f = forward (λ u. row_entries f u 0 n)
 
 -- the entries from a pair on are those that the table has from there on

@@ -16,3 +16,10 @@ pub mod GateLaws
 pub mod ArcLaws
 pub mod ArcSteps
 pub mod EntryLaws
+pub mod ColumnLaws
+pub mod PartLaws
+pub mod WholeLaws
+pub mod ReadLaws
+pub mod GraphLaws
+pub mod CheckedLaws
+pub mod FinalLaws

@@ -59,7 +59,7 @@ split_again w (v ∷ vs) h = slice_split_at is_blank w 32 (v ++ blank_names vs) 
 
 -- ---- names behind those that are read
 
-next_free : (limit : ℕ) (done ws : List (List ℕ)) → AreNext limit done ws → AllByRecursion (λ w. is_free_name w ≡ true) ws
+pub next_free : (limit : ℕ) (done ws : List (List ℕ)) → AreNext limit done ws → AllByRecursion (λ w. is_free_name w ≡ true) ws
 next_free limit done [] h = tt
 next_free limit done (w ∷ ws) h = ((both_true (is_free_name w) _ h.0).0, next_free limit (done ++ w ∷ []) ws h.1)
 

@@ -1,5 +1,5 @@
 -- The conditions of arcs as a list of those that aren't 0, and as a table.
-use Rattle.std.specs.Prelude.{◌≡◌, ◌≢◌, true, false, ℕ, ◌<◌, ◌==◌, ◌&&◌, List, [], ◌∷◌, length, if◌then◌else◌}
+use Rattle.std.specs.Prelude.{◌≡◌, ◌≢◌, true, false, ℕ, ◌<◌, ◌==◌, ◌&&◌, List, [], ◌∷◌, length, slice_set, slice_index_or, if◌then◌else◌}
 use Rattle.cpog_defs.specs.declared.types.Ref.{Ref}
 use Rattle.cpog_defs.specs.declared.types.Ref.TheVariants.{Const}
 use Rattle.cpog_defs.specs.Orders.{each_below}
@@ -40,3 +40,15 @@ table_of count es = each_below (λ u. each_below (λ v. look es u v ∷ []) coun
 -- the graph of these conditions
 unfoldable pub graph_from : ℕ → List Ref → List ArcLine → ConditionalGraph
 graph_from count ops es = record { ops = ops; arcs = table_of count es }
+
+-- two different operations of so many
+abbrev pub EndsFit : ℕ → ArcLine → Type 0
+EndsFit count e = (e.first < count) × ((e.second < count) × (e.first ≢ e.second))
+
+-- a table with one more condition, and with all of a list
+abbrev pub arc_set : List (List Ref) → ArcLine → List (List Ref)
+arc_set rows e = slice_set rows e.first (slice_set (slice_index_or rows e.first []) e.second e.condition)
+
+abbrev pub arcs_set : List (List Ref) → List ArcLine → List (List Ref)
+arcs_set rows [] = rows
+arcs_set rows (e ∷ es) = arc_set (arcs_set rows es) e

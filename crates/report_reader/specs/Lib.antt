@@ -9,3 +9,5 @@ pub mod Columns
 pub mod Gates
 pub mod Entries
 pub mod Reports
+pub mod Wholes
+pub mod Faults

@@ -1,5 +1,5 @@
 -- A report, as its rows are read.
-use Rattle.std.specs.Prelude.{ℕ, List, [], ◌∷◌, ◌++◌, length, Result, codes}
+use Rattle.std.specs.Prelude.{ℕ, List, [], ◌∷◌, ◌++◌, length, Result, Ok, codes}
 use Rattle.cpog_defs.specs.declared.types.Gate.{Gate}
 use Rattle.cpog_defs.specs.declared.types.Ref.{Ref}
 use Rattle.cnf_build.specs.Evidence.{EvidenceValue, OpenValue}
@@ -9,12 +9,13 @@ use Rattle.report_text.specs.declared.version.Version.TheVariants as versions
 use Rattle.report_text.specs.Report.{ReportValue}
 use Rattle.report_text.specs.Spelling.{SpellsReport}
 use Rattle.line_rows.specs.Position.{Position}
-use Rattle.line_rows.specs.Reading.{row, exactly, then_of, view_of}
+use Rattle.line_rows.specs.Reading.{◌>>=◌, row, exactly, then_of, view_of}
 use Rattle.evidence_reader.specs.Shown.{shown_at}
 use Rattle.module_reader.specs.Modules.{module_at}
 use Rattle.report_reader.specs.Heads.{HeadValue, head_at}
 use Rattle.report_reader.specs.Scenarios.{Block, Columns, columns_at, columns_from, scenarios_at}
-use Rattle.report_reader.specs.Gates.{gates_at, ops_at, arcs_at}
+use Rattle.cpog_defs.specs.Gates.{GateList}
+use Rattle.report_reader.specs.Gates.{gates_at, gate_list_at, ops_at, arcs_at}
 use Rattle.report_reader.specs.Entries.{graph_from}
 use Rattle.report_reader.specs.declared.gates.ArcLine.{ArcLine}
 
@@ -67,3 +68,54 @@ report_from x = record {
 -- a report
 abbrev pub report_at : Position → Result (ReportValue × Position) ℕ
 report_at = view_of report_from parts_at
+
+-- ---- as it is read
+
+-- a report of these parts
+abbrev pub report_of : HeadValue → Columns → GateList → List Ref → List ArcLine × Bound → EvidenceValue × OpenValue → ModuleValue → ReportValue
+report_of h c gates ops arcs shown design = record {
+  version = versions.One;
+  bits = h.bits;
+  budget = h.budget;
+  names = h.names;
+  scenario_names = c.names;
+  patterns = c.patterns;
+  scenarios = c.scenarios;
+  encoding = record { codes = c.codes; gates = gates; graph = graph_from (length h.names) ops arcs.0 };
+  bound = arcs.1;
+  evidence = shown.0;
+  open_part = shown.1;
+  design = design;
+}
+
+-- from the module on
+abbrev pub design_read : HeadValue → Columns → GateList → List Ref → List ArcLine × Bound → EvidenceValue × OpenValue → Position → Result (ReportValue × Position) ℕ
+design_read h c gates ops arcs shown p = module_at p >>= λ m. Ok (report_of h c gates ops arcs shown m.0, m.1)
+
+-- from the line before it on
+abbrev pub netlist_read : HeadValue → Columns → GateList → List Ref → List ArcLine × Bound → EvidenceValue × OpenValue → Position → Result (ReportValue × Position) ℕ
+netlist_read h c gates ops arcs shown p = row (exactly (codes "netlist")) p >>= λ n. design_read h c gates ops arcs shown n.1
+
+-- from the evidence on
+abbrev pub shown_read : HeadValue → Columns → GateList → List Ref → List ArcLine × Bound → Position → Result (ReportValue × Position) ℕ
+shown_read h c gates ops arcs p = shown_at h.names 65536 p >>= λ e. netlist_read h c gates ops arcs e.0 e.1
+
+-- from the conditions of arcs on
+abbrev pub arcs_read : HeadValue → Columns → ℕ → GateList → List Ref → Position → Result (ReportValue × Position) ℕ
+arcs_read h c count gates ops p = arcs_at h.bits count h.names p >>= λ a. shown_read h c gates ops a.0 a.1
+
+-- from the conditions of operations on
+abbrev pub ops_read : HeadValue → Columns → ℕ → GateList → Position → Result (ReportValue × Position) ℕ
+ops_read h c count gates p = ops_at h.bits count h.names p >>= λ o. arcs_read h c count gates o.0 o.1
+
+-- from the gates on
+abbrev pub gates_read : HeadValue → Columns → ℕ → Position → Result (ReportValue × Position) ℕ
+gates_read h c count p = gate_list_at h.bits count p >>= λ g. ops_read h c count g.0 g.1
+
+-- from the scenarios on
+abbrev pub scenarios_read : HeadValue → Position → Result (ReportValue × Position) ℕ
+scenarios_read h p = columns_at h.bits h.names p >>= λ s. gates_read h s.0.0 s.0.1 s.1
+
+-- a report
+unfoldable pub report_read : Position → Result (ReportValue × Position) ℕ
+report_read p = head_at p >>= λ h. scenarios_read h.0 h.1
