@@ -356,21 +356,22 @@ module _ (options : SynthOptions) (may : MayBeAsked options) (x : Encodable) (is
     module_names = refl;
     module_netlist = netlist;
     lower_bound = subst (λ m. IsLowerBound m orders given x.bits (printed_lower b)) same (subst (λ k. IsLowerBound (count_of orders) orders given x.bits k) (sym lower) found.lower);
-    one_count = of_search.one_count;
+    one_count = orders_are x.file orders is.orders;
     enough_bits = is.enough;
-    compared = of_search.encodes;
+    compared = subst (λ m. Encodes m orders given x.bits e) same found.encodes;
     attained = attained;
     few_gates = found.few_gates;
     columns = found.columns;
     are_columns = found.are_columns;
     classes = found.classes;
     are_classes = found.are_classes;
-    evidence = of_search.evidence;
+    evidence = subst (λ m. IsEvidence m orders given x.bits found.classes.columns (printed_lower b) evidence) same
+        (subst (λ k. IsEvidence (count_of orders) orders given x.bits found.classes.columns k evidence) (sym lower) found.is_evidence);
     taken = found.taken;
     counting_set = found.set;
     counting_bound = subst (λ k. length found.taken ≤ k + x.bits) (sym lower) found.counted;
     shown_by = subst (λ k. IsShownBy found.classes given x.bits options.budget found.taken k evidence) (sym lower) found.shown_by;
-    open_part = of_search.open_part;
+    open_part = subst (λ k. IsOpenPart given x.bits found.classes.columns k (length e.gates.gates) options.budget open_part) (sym lower) found.is_open_part;
     refs = found.refs;
     serve = found.serve;
     conditions = subst (λ m. IsGraphByClass m found.classes found.refs e.graph) same found.conditions;

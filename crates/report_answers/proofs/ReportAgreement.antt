@@ -8,10 +8,10 @@ use Rattle.refusal_lines.specs.declared.refusal.Refusal.TheVariants as refusal
 use Rattle.refusal_lines.specs.Refusal.{refusal_text, At}
 use Rattle.report_answers.specs.Checked.{IsBadReportAnswer, IsFailingAnswer, IsReportRefusal, IsGoodAnswer, IsReportsAnswer, SpellGoodReport}
 use Rattle.report_answers.specs.Reasons.{refusal_of}
-use Rattle.report_judge.proofs.FirstLemmas.{one_first_reason, good_has_none}
+use Rattle.report_judge.proofs.FailLemmas.{one_first_reason, part_fails}
 use Rattle.report_judge.specs.Good.{IsGood}
-use Rattle.report_judge.specs.Reasons.{IsFirstFailing}
-use Rattle.report_reader.specs.Texts.{IsReportText}
+use Rattle.report_judge.specs.Reasons.{part_of, IsFirstFailing}
+use Rattle.report_reader.specs.Reports.{IsReportText}
 use Rattle.report_text.proofs.LawLemmas.{one_report}
 use Rattle.report_text.specs.Report.{ReportValue}
 use Rattle.report_text.specs.Spelling.{SpellsReport}
@@ -35,13 +35,12 @@ module _ (bytes : List ℕ) where
       let reports = same h.report k.report h.spelled k.spelled in
       let there = subst (λ r. IsFirstFailing r k.reason) (sym reports) k.first in
       h.output_is
-      ∙ ap₂ (λ r reason. refusal_text (refusal_of r reason)) reports (one_first_reason h.report h.reason k.reason h.spelled.report h.first there)
+      ∙ ap₂ (λ r reason. refusal_text (refusal_of r reason)) reports (one_first_reason h.report h.reason k.reason h.first there)
       ∙ sym k.output_is
 
   -- a good report has no part that fails
   not_failing : (x : List ℕ) → IsFailingAnswer bytes x → (r : ReportValue) → SpellsReport r (lines_of bytes) → IsGood r → ⊥
-  not_failing x h r s good =
-      good_has_none h.report h.reason h.spelled.report (subst IsGood (same r h.report s h.spelled) good) h.first.fails
+  not_failing x h r s good = part_fails h.report h.reason h.first.fails (subst IsGood (same r h.report s h.spelled) good (part_of h.reason))
 
   abbrev bad : Cause
   bad = At status.Text (IsBadReportAnswer bytes)

@@ -12,7 +12,7 @@ use Rattle.report_judge.specs.declared.reason.Reason.{Reason}
 use Rattle.report_judge.specs.Good.{IsGood}
 use Rattle.report_judge.specs.Laws.{IsRight}
 use Rattle.report_judge.specs.Reasons.{IsFirstFailing}
-use Rattle.report_reader.specs.Texts.{IsReportText}
+use Rattle.report_reader.specs.Reports.{IsReportText}
 use Rattle.report_text.specs.Report.{ReportValue}
 use Rattle.report_text.specs.Spelling.{SpellsReport}
 use Rattle.text_rows.specs.FirstBad.{IsFirstBad}
