@@ -83,10 +83,7 @@ fn check_encoding(alloc: Global, report: &Report, orders: &[CoveredOrder]) -> Re
     ensures ok { OnOk result (HoldBelow report.now 7) }
     ensures err { IfErr result (IsFirstFault report.now) }
 {
-    match check_fitting(alloc, report, orders) {
-        Ok(()) => {}
-        Err(fault) => return Err(fault),
-    }
+    check_fitting(alloc, report, orders)?;
     if !is_own_module(report) {
         return Err(Fault::Fails(Reason::Netlist));
     }
@@ -119,10 +116,7 @@ fn check_open(alloc: Global, report: &Report, basis: &Basis) -> Result<(), Fault
     if !is_open_between(report, basis) {
         return Err(Fault::Fails(Reason::Open));
     }
-    match check_followed(alloc, report, basis) {
-        Ok(()) => {}
-        Err(fault) => return Err(fault),
-    }
+    check_followed(alloc, report, basis)?;
     if !reaches_budget(report) {
         return Err(Fault::Fails(Reason::OpenShort));
     }
