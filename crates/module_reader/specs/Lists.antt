@@ -18,6 +18,7 @@ unfoldable pub run : (ℕ → List ℕ) → ℕ → ℕ → List ℕ → ℕ × 
 run item zero i bytes = (i, bytes)
 run item (suc n) i bytes = next_or (i, bytes) (λ rest. run item n (i + 1) rest) (behind (item i) bytes)
 
+-- a comma
 abbrev pub is_comma : ℕ → Bool
 is_comma b = b == 44
 
@@ -52,6 +53,7 @@ arc_item u v = codes ", e" ++ (decimal u ++ (codes "_" ++ decimal v))
 abbrev pub arc_mark : ℕ → ℕ → List ℕ → Bool × List ℕ
 arc_mark u v bytes = if u == v then (false, bytes) else mark (arc_item u v) bytes
 
+-- what was read joins the list of those before it
 abbrev pub with_mark : {A : Type 0} → List A → A × List ℕ → List A × List ℕ
 with_mark done x = (done ++ x.0 ∷ [], x.1)
 
