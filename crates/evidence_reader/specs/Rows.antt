@@ -62,10 +62,11 @@ IsOpenHead limit open_heads.Closed = Unit {0}
 IsOpenHead limit (open_heads.Log kind gates) = gates < limit
 IsOpenHead limit (open_heads.Size kind gates) = gates < limit
 
--- a log that is open, and a template that is too large
+-- a log that is open
 abbrev pub open_log_of : Template × ℕ → Option OpenHead
 open_log_of x = Some (open_heads.Log x.0 x.1)
 
+-- a template that is too large
 abbrev pub open_size_of : Template × ℕ → Option OpenHead
 open_size_of x = Some (open_heads.Size x.0 x.1)
 

@@ -69,10 +69,11 @@ same_state s v = s
 unfoldable pub places_at : List (List ℕ) → ℕ → Position → Result ((List Place × OpenHead) × Position) ℕ
 places_at names limit = lined_of is_member_row (λ _. place_in names) same_state (open_head_in limit) tt
 
--- evidence without more lines, by a count, and by a refutation, with what is left open
+-- evidence that is one line, with what is left open
 abbrev pub with_none : OpenValue → EvidenceValue × OpenValue
 with_none o = (EvidenceValue.Zero, o)
 
+-- evidence by a count, with what is left open
 abbrev pub with_places : (List Place × OpenHead) × OpenValue → EvidenceValue × OpenValue
 with_places x = (EvidenceValue.Count x.0.0, x.1)
 

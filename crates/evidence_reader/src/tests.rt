@@ -41,7 +41,8 @@ fn places_and_a_size_are_read(rt: HostRuntime) -> Result<(), Fail> {
 #[test]
 fn logs_are_read_up_to_their_ends(rt: HostRuntime) -> Result<(), Fail> {
     let names = two_names(&rt)?;
-    let text = b"evidence refutation 2 3\n5 -1 16777216 0 4 0\n4294967295 d 5 0\n6 0 5 0\nend\nopen log 2 4\nend\n";
+    let text =
+        b"evidence refutation 2 3\n5 -1 16777216 0 4 0\n4294967295 d 5 0\n6 0 5 0\nend\nopen log 2 4\nend\n";
     let mut cursor = Cursor::new(text);
     let shown = shown_rows(rt.alloc(), &mut cursor, &names, 65536)
         .ok()
@@ -83,25 +84,67 @@ fn first_bad_lines_are_told(rt: HostRuntime) -> Result<(), Fail> {
     assert_eq!(rt; bad_line(&rt, "evidence zero\nopen none\n")?, None);
     assert_eq!(rt; bad_line(&rt, "evidence zero\n")?, Some(2));
     assert_eq!(rt; bad_line(&rt, "evidence zero \nopen none\n")?, Some(1));
-    assert_eq!(rt; bad_line(&rt, "evidence zero\nopen log 4 1\nend\n")?, Some(2));
-    assert_eq!(rt; bad_line(&rt, "evidence zero\nopen size 1 65536\n")?, Some(2));
-    assert_eq!(rt; bad_line(&rt, "evidence count\nop sub\nopen none\n")?, Some(2));
-    assert_eq!(rt; bad_line(&rt, "evidence count\narc add add\nopen none\n")?, Some(2));
+    assert_eq!(rt;
+        bad_line(&rt, "evidence zero\nopen log 4 1\nend\n")?,
+        Some(2)
+    );
+    assert_eq!(rt;
+        bad_line(&rt, "evidence zero\nopen size 1 65536\n")?,
+        Some(2)
+    );
+    assert_eq!(rt;
+        bad_line(&rt, "evidence count\nop sub\nopen none\n")?,
+        Some(2)
+    );
+    assert_eq!(rt;
+        bad_line(&rt, "evidence count\narc add add\nopen none\n")?,
+        Some(2)
+    );
     assert_eq!(rt; bad_line(&rt, "evidence count\nop add\n")?, Some(3));
     Ok(())
 }
 
 #[test]
 fn first_bad_lines_of_logs_are_told(rt: HostRuntime) -> Result<(), Fail> {
-    assert_eq!(rt; bad_line(&rt, "evidence zero\nopen log 1 0\n1  0 0\nend\n")?, Some(3));
-    assert_eq!(rt; bad_line(&rt, "evidence zero\nopen log 1 0\n1 0 0 \nend\n")?, Some(3));
-    assert_eq!(rt; bad_line(&rt, "evidence zero\nopen log 1 0\n1\t0 0\nend\n")?, Some(3));
-    assert_eq!(rt; bad_line(&rt, "evidence zero\nopen log 1 0\n1 0 0\nc\nend\n")?, Some(4));
-    assert_eq!(rt; bad_line(&rt, "evidence zero\nopen log 1 0\n1 0 0\n\nend\n")?, Some(4));
-    assert_eq!(rt; bad_line(&rt, "evidence zero\nopen log 1 0\n2 0 0\n2 0 0\nend\n")?, Some(4));
-    assert_eq!(rt; bad_line(&rt, "evidence zero\nopen log 1 0\n0 d 0\nend\n")?, Some(3));
-    assert_eq!(rt; bad_line(&rt, "evidence zero\nopen log 1 0\n1 16777217 0 0\nend\n")?, Some(3));
-    assert_eq!(rt; bad_line(&rt, "evidence zero\nopen log 1 0\n1 0 0\r\nend\n")?, Some(3));
-    assert_eq!(rt; bad_line(&rt, "evidence zero\nopen log 1 0\n1 0 0\n")?, Some(4));
+    assert_eq!(rt;
+        bad_line(&rt, "evidence zero\nopen log 1 0\n1  0 0\nend\n")?,
+        Some(3)
+    );
+    assert_eq!(rt;
+        bad_line(&rt, "evidence zero\nopen log 1 0\n1 0 0 \nend\n")?,
+        Some(3)
+    );
+    assert_eq!(rt;
+        bad_line(&rt, "evidence zero\nopen log 1 0\n1\t0 0\nend\n")?,
+        Some(3)
+    );
+    assert_eq!(rt;
+        bad_line(&rt, "evidence zero\nopen log 1 0\n1 0 0\nc\nend\n")?,
+        Some(4)
+    );
+    assert_eq!(rt;
+        bad_line(&rt, "evidence zero\nopen log 1 0\n1 0 0\n\nend\n")?,
+        Some(4)
+    );
+    assert_eq!(rt;
+        bad_line(&rt, "evidence zero\nopen log 1 0\n2 0 0\n2 0 0\nend\n")?,
+        Some(4)
+    );
+    assert_eq!(rt;
+        bad_line(&rt, "evidence zero\nopen log 1 0\n0 d 0\nend\n")?,
+        Some(3)
+    );
+    assert_eq!(rt;
+        bad_line(&rt, "evidence zero\nopen log 1 0\n1 16777217 0 0\nend\n")?,
+        Some(3)
+    );
+    assert_eq!(rt;
+        bad_line(&rt, "evidence zero\nopen log 1 0\n1 0 0\r\nend\n")?,
+        Some(3)
+    );
+    assert_eq!(rt;
+        bad_line(&rt, "evidence zero\nopen log 1 0\n1 0 0\n")?,
+        Some(4)
+    );
     Ok(())
 }

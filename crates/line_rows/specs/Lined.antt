@@ -28,6 +28,7 @@ lined_among front read next last s [] n = Err (n + 1)
 lined_among front read next last s (l ∷ ls) n =
     one_or_end (front l) (row_then (read s l) (n + 1) (λ v. lined_among front read next last (next s v) ls (n + 1))) (end_then (last l) ls (n + 1))
 
+-- the same at a place
 abbrev pub lined_of : {S A E : Type 0} → (List ℕ → Bool) → (S → List ℕ → Option A) → (S → A → S) → (List ℕ → Option E) → S → Position → Result ((List A × E) × Position) ℕ
 lined_of front read next last s p = lined_among front read next last s p.lines p.number
 
