@@ -134,11 +134,12 @@ module _ (width : ℕ) (names : List (List ℕ)) (known : AreKnown names) where
     where
       from : (b : Block) → FitsBlock width names done b → (x : Parts) × PartsFit done x × (text b ≡ (label_text width x.0 ∷ []) ++ ((has_row names (made x).scenario ∷ []) ++ (arcs_row names (made x).scenario ∷ []))) × (made x ≡ b)
       from b h =
-          let count = h.scenario.count_is in
-          (((b.name, (b.code, b.pattern)), (b.scenario.ops, b.scenario.arcs)),
-           ((h.next, (h.code, h.pattern)), (has_fits names known b.scenario h.scenario, fits_arcs names known b.scenario h.scenario)),
-           ap (λ (n : ℕ). text (record { name = b.name; code = b.code; pattern = b.pattern; scenario = record { count = n; ops = b.scenario.ops; arcs = b.scenario.arcs } })) count,
-           ap (λ (n : ℕ). record { name = b.name; code = b.code; pattern = b.pattern; scenario = record { count = n; ops = b.scenario.ops; arcs = b.scenario.arcs } }) (sym count))
+          let count = h.scenario.count_is in (
+            ((b.name, (b.code, b.pattern)), (b.scenario.ops, b.scenario.arcs)),
+            ((h.next, (h.code, h.pattern)), (has_fits names known b.scenario h.scenario, fits_arcs names known b.scenario h.scenario)),
+            ap (λ (n : ℕ). text (record { name = b.name; code = b.code; pattern = b.pattern; scenario = record { count = n; ops = b.scenario.ops; arcs = b.scenario.arcs } })) count,
+            ap (λ (n : ℕ). record { name = b.name; code = b.code; pattern = b.pattern; scenario = record { count = n; ops = b.scenario.ops; arcs = b.scenario.arcs } }) (sym count),
+          )
 
       to : (x : Parts) → PartsFit done x → FitsBlock width names done (made x) × (text (made x) ≡ (label_text width x.0 ∷ []) ++ ((has_row names (made x).scenario ∷ []) ++ (arcs_row names (made x).scenario ∷ [])))
       to x h = (record { next = h.0.0; code = h.0.1.0; pattern = h.0.1.1; scenario = reported names known x.1.0 x.1.1 h.1.0 h.1.1 }, refl)

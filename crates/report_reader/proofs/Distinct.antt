@@ -52,6 +52,7 @@ next_are_distinct limit done (w ∷ ws) h distinct few =
 
 pub distinct_are_next : (limit : ℕ) (done ws : List (List ℕ)) → AllByRecursion (λ w. is_free_name w ≡ true) ws → AreDistinct (done ++ ws) → length (done ++ ws) ≤ limit → AreNext limit done ws
 distinct_are_next limit done [] free distinct few = tt
-distinct_are_next limit done (w ∷ ws) free distinct few =
-    (rw (free.0, is_new done w ws distinct, lt-ltb (length done) limit (omega (arith, length-append done (w ∷ ws), few))) refl,
-     distinct_are_next limit (done ++ w ∷ []) ws free.1 (subst AreDistinct (sym (append_assoc done (w ∷ []) ws)) distinct) (subst (λ (x : List (List ℕ)). length x ≤ limit) (sym (append_assoc done (w ∷ []) ws)) few))
+distinct_are_next limit done (w ∷ ws) free distinct few = (
+  rw (free.0, is_new done w ws distinct, lt-ltb (length done) limit (omega (arith, length-append done (w ∷ ws), few))) refl,
+  distinct_are_next limit (done ++ w ∷ []) ws free.1 (subst AreDistinct (sym (append_assoc done (w ∷ []) ws)) distinct) (subst (λ (x : List (List ℕ)). length x ≤ limit) (sym (append_assoc done (w ∷ []) ws)) few),
+)

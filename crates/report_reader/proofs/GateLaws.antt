@@ -127,9 +127,9 @@ gates_rows inputs count ahead =
     let zero_more : inputs + 0 ≡ inputs = omega arith in
     rows-same (SoManyGates inputs count) (gate_lines inputs)
     (rows-many (λ i _. i + 1) (Ahead inputs)
-        (λ n i h. rows-row (gate_exact inputs i (omega (arith, h.small))) (record { j = 0; k = 1; table = 0 }, record { lower = omega arith; earlier = omega (arith, h.enough (omega arith)); table = omega arith }))
-        (λ n i g h fits. record { enough = λ _. omega (arith, h.enough (omega arith)); small = omega (arith, h.small) })
-        count 0 ahead)
+    (λ n i h. rows-row (gate_exact inputs i (omega (arith, h.small))) (record { j = 0; k = 1; table = 0 }, record { lower = omega arith; earlier = omega (arith, h.enough (omega arith)); table = omega arith }))
+    (λ n i g h fits. record { enough = λ _. omega (arith, h.enough (omega arith)); small = omega (arith, h.small) })
+    count 0 ahead)
     (λ gates h. (subst (λ (n : ℕ). FitsMany (Over inputs) (λ i _. i + 1) n 0 gates) h.1 (gates_fit inputs 0 gates (subst (λ (n : ℕ). AreGatesFrom n gates) (sym zero_more) h.0)), gates_written inputs gates))
     (λ gates h. let a = are_gates inputs count 0 gates h in ((subst (λ (n : ℕ). AreGatesFrom n gates) zero_more a.0, a.1), gates_written inputs gates))
 

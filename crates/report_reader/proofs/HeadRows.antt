@@ -27,7 +27,7 @@ parts_lines x = (codes "cpog report 1" ∷ []) ++ ((bits_row x.1.0 ∷ []) ++ ((
 parts_rows : IsRows PartsFit parts_lines (then_of (row (exactly (codes "cpog report 1"))) (λ _. then_of (row bits_in) (λ _. then_of (row budget_in) (λ _. row operations_in))))
 parts_rows = rows-then (rows-row (exact-exactly (codes "cpog report 1")) (tt, tt)) (λ _ _.
     rows-then (rows-row bits_exact (1, (lit< tt, refl))) (λ _ _.
-        rows-then (rows-row budget_exact (1, (lit< tt, refl))) (λ _ _. rows-row operations_exact ([], tt))))
+    rows-then (rows-row budget_exact (1, (lit< tt, refl))) (λ _ _. rows-row operations_exact ([], tt))))
 
 parts_of : (h : HeadValue) → IsHead h → (x : Parts) × PartsFit x × (lines_of_head h ≡ parts_lines x) × (head_from x ≡ h)
 parts_of h fits = ((tt, (h.bits, (h.budget, h.names))), (tt, ((omega (arith, fits.few_bits), le-leb 1 h.bits fits.some_bit), ((omega (arith, fits.few_budget), le-leb 1 h.budget fits.some_budget), fits.names))), refl, refl)

@@ -95,4 +95,3 @@ names_exact limit = record { again = λ names fits. again names fits; takes = λ
 pub operations_exact : IsExact (AreNext 64 []) operations_row operations_in
 unfolding operations_in
 operations_exact = exact-behind (codes "operations") (names_exact 64)
-

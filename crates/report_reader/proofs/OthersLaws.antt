@@ -33,7 +33,7 @@ module _ (bits : ℕ) (names : List (List ℕ)) where
 
   label_same : (c : Columns) (o : Option Label) (p : Position)
       → (read_or_fault (o >>=? λ x. Some (c.names ++ x.0 ∷ [], x.1)) p >>= λ x. row (has_in names) x.1 >>= λ y. row (arcs_in names y.0) y.1 >>= λ z. Ok (with_parts (length names) c x.0 y.0 z.0, z.1))
-        ≡ block_then c (read_or_fault o p >>= λ x. row (has_in names) x.1 >>= λ y. row (arcs_in names y.0) y.1 >>= λ z. Ok (block_of (length names) x.0 y.0 z.0, z.1))
+      ≡ block_then c (read_or_fault o p >>= λ x. row (has_in names) x.1 >>= λ y. row (arcs_in names y.0) y.1 >>= λ z. Ok (block_of (length names) x.0 y.0 z.0, z.1))
   label_same c None p = refl
   label_same c (Some x) p = has_same c x (row (has_in names) p)
 

@@ -89,7 +89,7 @@ netlist_rows = spelled-rows (rows-row (exact-exactly (codes "netlist")) (tt, tt)
 end_spelled : (names : List (List ℕ)) → AreNext 64 [] names → IsSpelled (SpellsEnd names) (end_at names)
 end_spelled names next =
     spelled-then (shown_spelled names 65536 (are_names names next) (known_names names next).distinct (omega arith)) (λ _ _ _.
-        spelled-then netlist_rows (λ _ _ _. spelled-rows module_law))
+    spelled-then netlist_rows (λ _ _ _. spelled-rows module_law))
 
 two_bits : (bits count : ℕ) → 1 ≤ bits → count < gate_bound bits → 0 < count → 2 ≤ bits + 0
 two_bits bits count low small some = grind arith
@@ -104,8 +104,8 @@ body_spelled : (bits : ℕ) (names : List (List ℕ)) (count : ℕ) → 1 ≤ bi
 body_spelled bits names count low few small next =
     let below : bits + count < 2 ^ 32 = omega (arith, bound_most bits) in
     spelled-then (spelled-rows (gates_rows bits count (ahead bits count low few small))) (λ _ _ _.
-        spelled-then (spelled-rows (ops_rows bits count names below)) (λ _ _ _.
-            spelled-then (arcs_spelled bits count names (known_names names next) below) (λ _ _ _. end_spelled names next)))
+    spelled-then (spelled-rows (ops_rows bits count names below)) (λ _ _ _.
+    spelled-then (arcs_spelled bits count names (known_names names next) below) (λ _ _ _. end_spelled names next)))
 
 pub count_of_scenes : (h : HeadValue) (s : Scenes) → FitsScenes h s → s.1.1 < gate_bound h.bits
 count_of_scenes h s fits = fits_end h.bits h.names (λ n. n < gate_bound h.bits) 63 (s.0.name ∷ []) s.1.0 s.1.1 fits.1
@@ -113,5 +113,5 @@ count_of_scenes h s fits = fits_end h.bits h.names (λ n. n < gate_bound h.bits)
 pub parts_spelled : IsSpelled SpellsParts parts_at
 parts_spelled =
     spelled-then (spelled-rows head_rows) (λ h _ head.
-        spelled-then (spelled-rows (scenarios_rows h.bits h.names (known_names h.names head.0.names))) (λ s _ scenes.
-            body_spelled h.bits h.names s.1.1 head.0.some_bit head.0.few_bits (count_of_scenes h s scenes.0) head.0.names))
+    spelled-then (spelled-rows (scenarios_rows h.bits h.names (known_names h.names head.0.names))) (λ s _ scenes.
+    body_spelled h.bits h.names s.1.1 head.0.some_bit head.0.few_bits (count_of_scenes h s scenes.0) head.0.names))

@@ -92,12 +92,13 @@ module _ (names : List (List ℕ)) (known : AreKnown names) where
       → ((d : OpId × OpId) → 0 < length arcs → is_from p (get_or arcs 0 d).0.0 (get_or arcs 0 d).1.0 ≡ true) → Fit ops p arcs
   arcs_fit ops p [] pairs kept first = tt
   arcs_fit ops p (a ∷ arcs) pairs kept first =
-      let ends = kept 0 a (omega arith) in
-      ((first a (omega arith), (ends.0, ends.1)),
-       arcs_fit ops (record { first = a.0.0; second = a.1.0 + 1 }) arcs
-       (λ i j d lt within. pairs (suc i) (suc j) d (omega (arith, lt)) (omega (arith, within)))
-       (λ k d lt. kept (suc k) d (omega (arith, lt)))
-       (λ d some. before_arc a (get_or arcs 0 d) (pairs 0 1 d (omega arith) (omega (arith, some)))))
+      let ends = kept 0 a (omega arith) in (
+        (first a (omega arith), (ends.0, ends.1)),
+        arcs_fit ops (record { first = a.0.0; second = a.1.0 + 1 }) arcs
+            (λ i j d lt within. pairs (suc i) (suc j) d (omega (arith, lt)) (omega (arith, within)))
+            (λ k d lt. kept (suc k) d (omega (arith, lt)))
+            (λ d some. before_arc a (get_or arcs 0 d) (pairs 0 1 d (omega arith) (omega (arith, some)))),
+      )
 
   not_before_itself : (a : OpId × OpId) → IsArcBefore a a → ⊥
   not_before_itself a h = elim h [ inl lt ↦ absurd (omega (arith, lt)) | inr e ↦ absurd (let l = e.1 in omega (arith, l)) ]

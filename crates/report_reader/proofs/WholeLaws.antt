@@ -374,9 +374,13 @@ module _ (r : ReportValue) (ls : List (List ℕ)) (h : SpellsReport r ls) where
     gate_lines r.bits r.encoding.gates.gates,
     ref_lines r.bits r.names r.encoding.graph.ops ++ (r_arc_lines ++ r_end),
     ((gates_are, refl), refl),
-    (ref_lines r.bits r.names r.encoding.graph.ops, r_arc_lines ++ r_end, (r_ops, refl),
-        (r_arc_lines, r_end, ((graph_entries_fit (r.bits + r_count) (length r.names) r.encoding.graph the_graph, bound_is), refl), spells_end, refl),
-        refl),
+    (
+      ref_lines r.bits r.names r.encoding.graph.ops,
+      r_arc_lines ++ r_end,
+      (r_ops, refl),
+      (r_arc_lines, r_end, ((graph_entries_fit (r.bits + r_count) (length r.names) r.encoding.graph the_graph, bound_is), refl), spells_end, refl),
+      refl,
+    ),
     refl,
   )
 

@@ -28,13 +28,7 @@ pub fn word_of(digits: &[u8], bits: u8) -> Option<u8>
     ensures below { IfSome result (λ w. w < 2 ^ bits) }
 {
     match digits {
-        [] => {
-            if bits == 0 {
-                Some(0)
-            } else {
-                None
-            }
-        }
+        [] => { if bits == 0 { Some(0) } else { None } }
         [first, rest @ ..] => {
             if bits == 0 {
                 return None;

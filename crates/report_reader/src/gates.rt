@@ -159,13 +159,7 @@ pub fn ops_of(
 
 /// The condition of an arc on its line, from the least pair on that may come.
 #[tactic(auto, unfolding(crate::specs::Gates::entry_in))]
-fn entry_of(
-    line: &[u8],
-    inputs: u8,
-    gates: u32,
-    names: &Names,
-    least: Least,
-) -> Option<ArcLine>
+fn entry_of(line: &[u8], inputs: u8, gates: u32, names: &Names, least: Least) -> Option<ArcLine>
     requires known { AreNames names.now }
     requires few { length names.now ≤ 64 }
     requires small { inputs + gates < 2 ^ 32 }

@@ -3,10 +3,10 @@ ghost use Rattle.line_text.specs.Words as words;
 ghost use Rattle.report_reader.specs.Reading.{is_next, names_after, operations_in};
 
 use cpog_base::{Memory, Names};
+use line_rows::behind;
 use line_text::{first_place, is_free_name};
 use std::alloc::Global;
 use std::str;
-use line_rows::behind;
 
 /// A name as text.
 pub fn text_of(word: &[u8]) -> &str
@@ -40,11 +40,7 @@ pub fn takes(names: &mut Names, word: &[u8], limit: u32) -> Result<bool, Memory>
 
 /// What follows the name that comes next and now goes last, or nothing where none may come.
 #[tactic(auto, using(crate::proofs::NameSteps::word_stops, crate::proofs::NameSteps::word_goes_on))]
-fn next_name<'a>(
-    names: &mut Names,
-    more: &'a [u8],
-    limit: u32,
-) -> Result<Option<&'a [u8]>, Memory>
+fn next_name<'a>(names: &mut Names, more: &'a [u8], limit: u32) -> Result<Option<&'a [u8]>, Memory>
     requires { limit ≤ 128 }
     ensures names { IfOk result (λ o. MatchOption o (names_after limit names.old (32 ∷ more.now) ≡ None) (λ rest. names_after limit names.old (32 ∷ more.now) ≡ names_after limit names.new rest.now)) }
     ensures shorter { IfOk result (λ o. IfSome o (λ rest. length rest.now ≤ length more.now)) }

@@ -25,12 +25,7 @@ pub fn operation_of(names: &Names, word: &[u8]) -> Option<u32>
 }
 
 /// Gives the scenario the operation with this name, where it may come next, and answers the least that may come then.
-fn take_member(
-    scenario: &mut Scenario,
-    least: u8,
-    names: &Names,
-    word: &[u8],
-) -> Option<u8>
+fn take_member(scenario: &mut Scenario, least: u8, names: &Names, word: &[u8]) -> Option<u8>
     requires known { AreNames names.now }
     requires few { length names.now ≤ 64 }
     requires count { scenario.old.count ≡ length names.now }

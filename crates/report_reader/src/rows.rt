@@ -7,8 +7,8 @@ ghost use Rattle.report_reader.specs.Heads.{HeadValue, value_of, head_at, IsHead
 use crate::head::{bits_of, budget_of};
 use crate::names::operations_of;
 use cpog_base::Names;
-use std::alloc::Global;
 use line_rows::{Cursor, ReadError};
+use std::alloc::Global;
 
 /// What the head of a report says.
 #[derive(Drop)]

@@ -43,7 +43,9 @@ endmodule
 
 #[test]
 fn a_report_is_read(rt: HostRuntime) -> Result<(), Fail> {
-    let report = read_report(rt.alloc(), REPORT.as_bytes()).ok().ok_or("it is a report")?;
+    let report = read_report(rt.alloc(), REPORT.as_bytes())
+        .ok()
+        .ok_or("it is a report")?;
     assert_eq!(rt; report.bits(), 1);
     assert_eq!(rt; report.budget(), 2000000);
     assert_eq!(rt; report.names().len(), 2);
@@ -70,12 +72,31 @@ fn bad_line(alloc: Global, old: &str, new: &str) -> Option<u32> {
 
 #[test]
 fn a_damaged_line_gives_its_number(rt: HostRuntime) {
-    assert_eq!(rt; bad_line(rt.alloc(), "cpog report 1", "cpog report 2"), Some(1));
-    assert_eq!(rt; bad_line(rt.alloc(), "scenario pop 1", "scenario push 1"), Some(8));
-    assert_eq!(rt; bad_line(rt.alloc(), "scenario pop 1", "scenario pop 1 -"), Some(8));
+    assert_eq!(rt;
+        bad_line(rt.alloc(), "cpog report 1", "cpog report 2"),
+        Some(1)
+    );
+    assert_eq!(rt;
+        bad_line(rt.alloc(), "scenario pop 1", "scenario push 1"),
+        Some(8)
+    );
+    assert_eq!(rt;
+        bad_line(rt.alloc(), "scenario pop 1", "scenario pop 1 -"),
+        Some(8)
+    );
     assert_eq!(rt; bad_line(rt.alloc(), "gates 0", "gates 1"), Some(11));
-    assert_eq!(rt; bad_line(rt.alloc(), "op access_memory 1", "op access_memory g0"), Some(13));
-    assert_eq!(rt; bad_line(rt.alloc(), "arc access_memory move_pointer x0", "arc access_memory move_pointer 0"), Some(15));
+    assert_eq!(rt;
+        bad_line(rt.alloc(), "op access_memory 1", "op access_memory g0"),
+        Some(13)
+    );
+    assert_eq!(rt;
+        bad_line(
+            rt.alloc(),
+            "arc access_memory move_pointer x0",
+            "arc access_memory move_pointer 0"
+        ),
+        Some(15)
+    );
     assert_eq!(rt; bad_line(rt.alloc(), "minimum 0", "minimum 00"), Some(16));
     assert_eq!(rt; bad_line(rt.alloc(), "endmodule\n", ""), Some(32));
 }
