@@ -18,14 +18,13 @@ ghost use Rattle.refusal_lines.specs.Stops.{IsStop};
 
 use crate::encodable::{CodeLength, Encodable, encodable_of};
 use crate::graph_text::file_of;
-use refusal_lines::Refusal;
-use refusal_lines::{Answer, Stop, refuse};
-use command_words::{CNF_GATE_LIMIT, CnfOptions};
 use cnf_build::{Template, build, template_size};
+use command_words::{CNF_GATE_LIMIT, CnfOptions};
 use cpog_base::{Counted, INPUT_LIMIT, Memory, Pattern, Status, TEMPLATE_LIMIT};
 use cpog_merge::{ClassList, classes, merge};
 use dimacs_text::write_cnf;
 use gate_core::free_patterns;
+use refusal_lines::{Answer, Refusal, Stop, refuse};
 use std::alloc::Global;
 
 /// The classes of scenarios that can be encoded, and a pattern without a given bit for the code of each scenario.

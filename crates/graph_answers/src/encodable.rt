@@ -12,14 +12,13 @@ ghost use Rattle.refusal_lines.specs.Stops.{IsStop};
 ghost use Rattle.scenario_check.specs.Equals.{AreDifferent};
 
 use crate::graph_text::names_of;
-use refusal_lines::Refusal;
 use crate::refusing::{refuse_cycle, refuse_equal, refuse_unbound};
-use refusal_lines::{Stop, refuse};
 use cpog_base::{BIT_LIMIT, Counted, Names, Order, SCENARIO_LIMIT, Scenario, Status};
 use opcode_assign::default_bits;
 use order_reduce::{CoveredOrder, covered_orders};
 use pg_normal::{DenotingFault, Scope, forms_in, scenarios_of};
 use pg_text::File;
+use refusal_lines::{Refusal, Stop, refuse};
 use scenario_check::{OrderFault, first_equal, orders_of};
 use std::alloc::Global;
 
@@ -97,11 +96,11 @@ fn check_different(alloc: Global, file: &File, names: &Names, orders: &[Order]) 
 
 /// How long codes are to be.
 #[derive(Clone, Copy)]
-pub(crate) struct CodeLength {
+pub struct CodeLength {
     /// The least number of bits, from 1 to 8, where none is said.
-    pub(crate) least: u8,
+    pub least: u8,
     /// The number of bits that is said, from 1 to 8.
-    pub(crate) said: Option<u8>,
+    pub said: Option<u8>,
 }
 
 /// How many bits the codes of so many scenarios have: as many as are said, or else as few as tell them apart.

@@ -6,12 +6,11 @@ ghost use Rattle.pg_normal.specs.Naming.{IsScopeOf};
 ghost use Rattle.graph_answers.specs.Refusals.{IsTextRefusal, IsNamesRefusal};
 ghost use Rattle.refusal_lines.specs.Stops.{IsStop};
 
-use refusal_lines::Refusal;
 use crate::refusing::refuse_names;
-use refusal_lines::{Stop, refuse};
 use cpog_base::{INPUT_LIMIT, Status};
 use pg_normal::{Scope, scope_of};
 use pg_text::{File, FileFault, read_file};
+use refusal_lines::{Refusal, Stop, refuse};
 use std::alloc::Global;
 
 /// The file that a graph text spells.

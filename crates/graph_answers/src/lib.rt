@@ -14,5 +14,6 @@ mod synth;
 mod synthesis;
 
 pub use cnf::answer_cnf;
+pub use encodable::CodeLength;
 pub use normal::answer_normal;
 pub use synth::answer_synth;

@@ -4,9 +4,9 @@ ghost use Rattle.graph_answers.specs.Answers.{IsNormalAnswer, IsGraphTextAnswer}
 ghost use Rattle.refusal_lines.specs.Stops.{IsStop};
 
 use crate::graph_text::{file_of, names_of};
-use refusal_lines::{Answer, Stop};
 use cpog_base::{INPUT_LIMIT, Status};
 use pg_normal::{forms_in, write_forms};
+use refusal_lines::{Answer, Stop};
 use std::alloc::Global;
 
 /// The answer to a graph text: the normal forms of its file.

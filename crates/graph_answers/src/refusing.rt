@@ -5,10 +5,9 @@ ghost use Rattle.refusal_lines.specs.Refusal.{At, Tells};
 ghost use Rattle.graph_answers.specs.Refusals.{IsNamesLine};
 ghost use Rattle.refusal_lines.specs.Stops.{IsStop};
 
-use refusal_lines::Refusal;
-use refusal_lines::{Stop, refuse};
 use cpog_base::{Name, Status};
 use pg_normal::NameFault;
+use refusal_lines::{Refusal, Stop, refuse};
 use std::alloc::Global;
 
 /// Tells a fault of names.

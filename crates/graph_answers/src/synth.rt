@@ -7,10 +7,10 @@ ghost use Rattle.graph_answers.specs.Synthesis.{report_status};
 
 use crate::encodable::{CodeLength, encodable_of};
 use crate::graph_text::file_of;
-use refusal_lines::{Answer, Stop};
 use crate::synthesis::report_of;
 use command_words::SynthOptions;
 use cpog_base::{INPUT_LIMIT, Status};
+use refusal_lines::{Answer, Stop};
 use report_text::{Bound, write_report};
 use std::alloc::Global;
 
@@ -25,11 +25,7 @@ fn report_status(exact: bool, bound: Bound) -> Status
 }
 
 /// The answer to a graph text: the report of its file.
-pub fn answer_synth(
-    alloc: Global,
-    options: SynthOptions,
-    bytes: &[u8],
-) -> Result<Answer, Stop>
+pub fn answer_synth(alloc: Global, options: SynthOptions, bytes: &[u8]) -> Result<Answer, Stop>
     requires options { MayBeAsked options }
     requires few { length bytes.now ≤ INPUT_LIMIT }
     ensures ok { IfOk result (λ a. IsGraphTextAnswer (IsSynthAnswer options) bytes.now a.status a.output.items) }

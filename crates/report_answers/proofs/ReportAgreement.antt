@@ -3,7 +3,7 @@ use Rattle.std.proofs.Common.{◌≡◌, ℕ, List, sym, ap, ap₂, ◌∙◌, s
 use Rattle.cpog_base.specs.declared.status.Status.{Status}
 use Rattle.cpog_base.specs.declared.status.Status.TheVariants as status
 use Rattle.line_text.specs.Lines.{lines_of}
-use Rattle.refusal_lines.proofs.Causes.{Cause, IsOne, AreApart, either, one_at, one_either}
+use Rattle.refusal_lines.proofs.Causes.{Cause, IsOne, either, one_at, one_either}
 use Rattle.refusal_lines.specs.declared.refusal.Refusal.TheVariants as refusal
 use Rattle.refusal_lines.specs.Refusal.{refusal_text, At}
 use Rattle.report_answers.specs.Checked.{IsBadReportAnswer, IsFailingAnswer, IsReportRefusal, IsGoodAnswer, IsReportsAnswer, SpellGoodReport}

@@ -1,5 +1,4 @@
 -- The refusal of a report that isn't good, by the reason.
-use Rattle.cpog_base.specs.declared.limits.Counted.{Counted}
 use Rattle.netlist_verilog.specs.Wires.{name_of}
 use Rattle.refusal_lines.specs.declared.refusal.Refusal.{Refusal}
 use Rattle.refusal_lines.specs.declared.refusal.Refusal.TheVariants as refusal

@@ -36,11 +36,7 @@ fn operation_of(alloc: Global, report: &Report, v: OpId) -> Result<Name, Memory>
 }
 
 /// The refusal that names a reason.
-pub(crate) fn refusal_of(
-    alloc: Global,
-    report: &Report,
-    reason: Reason,
-) -> Result<Refusal, Memory>
+pub(crate) fn refusal_of(alloc: Global, report: &Report, reason: Reason) -> Result<Refusal, Memory>
     ensures { IfOk result (λ refusal. refusal ≡ reasons.refusal_of report.now reason) }
 {
     let refusal = match reason {

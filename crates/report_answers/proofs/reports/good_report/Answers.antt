@@ -2,7 +2,7 @@ use Rattle.std.proofs.Common.{inr, subst}
 use Rattle.std.proofs.lemmas.Result.{err_from_is_err_and}
 use Rattle.cpog_base.specs.declared.status.Status.TheVariants as status
 use Rattle.refusal_lines.proofs.StopLemmas.{stop_map}
-use Rattle.refusal_lines.specs.Refusal.{At, Tells}
+use Rattle.refusal_lines.specs.Refusal.{Tells}
 use Rattle.report_judge.specs.Reasons.{IsVerdict}
 use Rattle.report_answers.specs.Checked.{IsReportRefusal}
 use Rattle.report_answers.specs.Reasons.{refusal_of}

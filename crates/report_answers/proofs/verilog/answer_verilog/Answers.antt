@@ -14,10 +14,13 @@ returns-in_err-output-clause-err c =
 pub returns-clause-ok : goal.returns-clause-ok
 returns-clause-ok c =
     let r = c.in_ok-report in
-    inr (refl, record {
-      report = r.report;
-      spelled = r.ensures.spelled;
-      good = r.ensures.good;
-      right = good_is_right r.report r.ensures.spelled.report r.ensures.good;
-      output_is = c.in_ok-output.ensures ∙ ap (λ (m : ModuleValue). text_of (module_lines m)) c.design.ensures;
-    })
+    inr (
+      refl,
+      record {
+        report = r.report;
+        spelled = r.ensures.spelled;
+        good = r.ensures.good;
+        right = good_is_right r.report r.ensures.spelled.report r.ensures.good;
+        output_is = c.in_ok-output.ensures ∙ ap (λ (m : ModuleValue). text_of (module_lines m)) c.design.ensures;
+      },
+    )
