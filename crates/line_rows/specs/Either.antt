@@ -3,10 +3,12 @@ use Rattle.std.specs.Prelude.{ℕ, zero, suc, ◌+◌, Bool, true, false, List, 
 use Rattle.line_rows.specs.Position.{Position}
 use Rattle.line_rows.specs.Reading.{then_of, view_of}
 
+-- the first reader or the second, by a test
 abbrev pub fork : {A : Type 0} → Bool → (Position → Result (A × Position) ℕ) → (Position → Result (A × Position) ℕ) → Position → Result (A × Position) ℕ
 fork true first second p = first p
 fork false first second p = second p
 
+-- the same by the next line, which has to be there
 abbrev pub either_among : {A : Type 0} → (List ℕ → Bool) → (Position → Result (A × Position) ℕ) → (Position → Result (A × Position) ℕ) → List (List ℕ) → ℕ → Result (A × Position) ℕ
 either_among front first second [] n = Err (n + 1)
 either_among front first second (l ∷ ls) n = fork (front l) first second (record { lines = l ∷ ls; number = n })

@@ -5,6 +5,7 @@ use Rattle.line_rows.specs.declared.fault.ReadError.{ReadError}
 use Rattle.line_rows.specs.declared.fault.ReadError.TheVariants as errors
 use Rattle.line_rows.specs.Position.{Position}
 
+-- what comes next, of what was read; a fault stays
 infixl 10 ◌>>=◌
 abbrev pub ◌>>=◌ : {A B : Type 0} → Result A ℕ → (A → Result B ℕ) → Result B ℕ
 (Ok x) >>= f = f x

@@ -8,11 +8,13 @@ use Rattle.line_rows.specs.Reading.{row, exactly, then_of, view_of}
 use Rattle.report_reader.specs.Reading.{bits_in, budget_in, operations_in, AreNext}
 use Rattle.report_reader.specs.declared.rows.Head.{Head}
 
+-- what the first four lines say
 pub record HeadValue : Type 0 where
   pub bits : ℕ
   pub budget : ℕ
   pub names : List (List ℕ)
 
+-- a head as clauses see it
 abbrev pub value_of : Head → HeadValue
 value_of h = record { bits = h.bits; budget = h.budget; names = h.names }
 

@@ -5,12 +5,15 @@ use Rattle.cpog_base.specs.Names.{has_text}
 use Rattle.line_text.specs.Words.{is_free_name}
 use Rattle.line_rows.specs.Words.{◌>>=?◌, number_in, behind_of, made_of}
 
+-- a number that is no less than another
 abbrev pub some_from : ℕ → ℕ → Option ℕ
 some_from low n = if nat_le low n then Some n else None
 
+-- the number of bits that a line says, from 1 to 8
 unfoldable pub bits_in : List ℕ → Option ℕ
 bits_in = behind_of (codes "bits ") (made_of (some_from 1) (number_in 9))
 
+-- the budget that a line says, from 1 to 8388608
 unfoldable pub budget_in : List ℕ → Option ℕ
 budget_in = behind_of (codes "budget ") (made_of (some_from 1) (number_in 8388609))
 

@@ -5,6 +5,7 @@ use Rattle.cpog_defs.specs.declared.types.Ref.{Ref}
 use Rattle.cpog_defs.specs.declared.types.Ref.TheVariants.{Const, Signal}
 use Rattle.line_rows.specs.Words.{◌>>=?◌, number_in, behind, before}
 
+-- the signal of an input's digits or of a gate's
 abbrev pub signal_from : ℕ → ℕ → Option (List ℕ) → Option (List ℕ) → Option ℕ
 signal_from inputs gates (Some digits) other = number_in inputs digits
 signal_from inputs gates None (Some digits) = number_in gates digits >>=? λ g. Some (inputs + g)

@@ -6,6 +6,7 @@ use Rattle.report_reader.specs.declared.whole.Rows.{Rows}
 use Rattle.report_reader.specs.Heads.{value_of}
 use Rattle.report_reader.specs.Columns.{columns_of}
 
+-- the report that the rows say, as clauses see it
 abbrev pub report_of_rows : Rows → ReportValue
 report_of_rows r = record {
   version = versions.One;
