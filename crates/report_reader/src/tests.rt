@@ -49,7 +49,7 @@ fn a_report_is_read(rt: HostRuntime) -> Result<(), Fail> {
     assert_eq!(rt; report.bits(), 1);
     assert_eq!(rt; report.budget(), 2000000);
     assert_eq!(rt; report.names().len(), 2);
-    assert_eq!(rt; report.scenario_names().get(1), "pop");
+    assert_eq!(rt; report.scenario_names().find("pop"), Some(1));
     assert_eq!(rt; report.scenarios().len(), 2);
     assert_eq!(rt; report.bound(), Bound::Minimum(0));
     let graph = report.encoding().graph();
@@ -64,6 +64,10 @@ fn a_report_is_read(rt: HostRuntime) -> Result<(), Fail> {
 /// The number of the first bad line where this text stands in the place of that.
 fn bad_line(alloc: Global, old: &str, new: &str) -> Option<u32> {
     let text = REPORT.replace(alloc, old, new).ok()?;
+    // It is as short as the report is.
+    if text.len() > 2000 {
+        return None;
+    }
     match read_report(alloc, text.as_bytes()) {
         Err(ReportFault::BadSection(number)) => Some(number),
         _ => None,

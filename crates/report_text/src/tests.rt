@@ -1,7 +1,7 @@
 //! What no clause says: that the calls that take memory succeed where memory is there, and the printed bytes.
 
 use crate::Bound;
-use crate::known::{put_bound, put_evidence, put_open};
+use crate::known::{append_evidence, append_open, put_bound};
 use crate::writing::{put_arc, put_code, put_gates, put_op};
 use clause_arena::Lit;
 use cnf_build::{Evidence, OpenPart, Template};
@@ -69,10 +69,10 @@ fn a_count_is_printed_by_the_names_of_its_places(rt: HostRuntime) -> Result<(), 
     let mut places = Vec::new(rt.alloc());
     places.push(Place::Op(OpId(1)))?;
     places.push(Place::Arc(OpId(1), OpId(0)))?;
-    let mut out = String::new(rt.alloc());
-    put_evidence(&mut out, &names, &Evidence::Count(places))?;
-    put_evidence(&mut out, &names, &Evidence::Zero)?;
-    put_open(&mut out, &OpenPart::Closed)?;
+    let out = String::new(rt.alloc());
+    let out = append_evidence(out, &names, &Evidence::Count(places))?;
+    let out = append_evidence(out, &names, &Evidence::Zero)?;
+    let out = append_open(out, &OpenPart::Closed)?;
     let want = "evidence count\nop b\narc b a\nevidence zero\nopen none\n";
     assert_eq!(rt; out.as_str(), want);
     Ok(())
@@ -103,10 +103,10 @@ fn logs_are_printed_up_to_their_end(rt: HostRuntime) -> Result<(), Fail> {
         template: Template::Second,
         gates: 65535,
     };
-    let mut out = String::new(rt.alloc());
-    put_evidence(&mut out, &names, &refutation)?;
-    put_open(&mut out, &open_log)?;
-    put_open(&mut out, &size)?;
+    let out = String::new(rt.alloc());
+    let out = append_evidence(out, &names, &refutation)?;
+    let out = append_open(out, &open_log)?;
+    let out = append_open(out, &size)?;
     let want = "evidence refutation 1 1
 5 -1 0 1 2 0
 5 d 1 2 0
